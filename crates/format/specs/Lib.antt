@@ -1,2 +1,11 @@
 pub mod Digits
 pub mod Refusals
+pub mod Syntax
+pub mod Tables
+pub mod Body
+pub mod Ledger
+pub mod Whole
+pub mod Calls
+pub mod ByName
+pub mod Added
+pub mod Samples

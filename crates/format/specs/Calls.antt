@@ -1,0 +1,84 @@
+-- What the ledger's writer and reader answer, and what they leave in the buffer that is lent.
+-- Assumes nothing: these are definitions.
+use Prim.Native.Nat.{ℕ, _≤_}
+use mathlib.Core.Bool.{cond}
+use mathlib.Core.List.{List, []}
+use lib.Dec.{leb}
+use lib.ListN.{length, take}
+use Rattle.format.specs.Digits.{splice}
+use Rattle.format.specs.Refusals.{refuse}
+use Rattle.format.specs.Syntax.{Parse, got, refused, andThen}
+use Rattle.format.specs.Whole.{bodyRead, plainOf, ledgerOf, idOf, ledgerRead}
+use Rattle.format.specs.declared.Answer.{Answer}
+use Rattle.format.specs.declared.Answer.the-variants.{Done, Refused}
+
+-- ---- an answer's numbers, one for each call from C; 0 where there is none
+
+unfoldable pub numberOf : Answer → ℕ
+numberOf (Done id n) = 0
+numberOf (Refused f) = f .number
+
+unfoldable pub needOf : Answer → ℕ
+needOf (Done id n) = 0
+needOf (Refused f) = f .need
+
+unfoldable pub haveOf : Answer → ℕ
+haveOf (Done id n) = 0
+haveOf (Refused f) = f .have
+
+unfoldable pub tableIdOf : Answer → ℕ
+tableIdOf (Done id n) = id
+tableIdOf (Refused f) = 0
+
+unfoldable pub lengthOf : Answer → ℕ
+lengthOf (Done id n) = n
+lengthOf (Refused f) = 0
+
+-- ---- a result and the buffer that is lent for it
+
+-- the answer, where room is the buffer's length: 22 if the result is longer
+unfoldable pub answer : ℕ → ℕ → Parse (List ℕ) → Answer
+answer id room (got xs rest) = cond (leb (length xs) room) (Done id (length xs)) (Refused (refuse 22 (length xs) room))
+answer id room (refused number needed had) = Refused (refuse number needed had)
+
+-- the buffer afterwards: the result and behind it the old bytes; all old bytes after a refusal
+unfoldable pub left : List ℕ → Parse (List ℕ) → List ℕ
+left out (got xs rest) = cond (leb (length xs) (length out)) (splice out 0 xs) out
+left out (refused number needed had) = out
+
+-- the result in the buffer that a call left
+abbrev pub resultIn : Answer → List ℕ → List ℕ
+resultIn a out = take (lengthOf a) out
+
+-- "large enough": no shorter than the result, where there is one
+abbrev pub Enough : ℕ → Parse (List ℕ) → Type 0
+Enough room (got xs rest) = length xs ≤ room
+Enough room (refused number needed had) = Unit {0}
+
+-- ---- the writer and the reader
+
+-- the ledger of a body, or the body's refusal
+unfoldable pub filed : ℕ → List ℕ → Parse (List ℕ)
+filed id b = andThen (bodyRead id b) (λ t rest. got (ledgerOf id t) [])
+
+-- the plain body of a body, or the body's refusal
+unfoldable pub plained : ℕ → List ℕ → Parse (List ℕ)
+plained id b = andThen (bodyRead id b) (λ t rest. got (plainOf t) [])
+
+-- the plain body of a ledger, or the ledger's refusal
+unfoldable pub restored : List ℕ → Parse (List ℕ)
+restored l = andThen (ledgerRead l) (λ t rest. got (plainOf t) [])
+
+-- a table id, a body and the buffer, or its length
+unfoldable pub writeAnswer : ℕ → List ℕ → ℕ → Answer
+writeAnswer id b room = answer id room (filed id b)
+
+unfoldable pub writeLeft : ℕ → List ℕ → List ℕ → List ℕ
+writeLeft id b out = left out (filed id b)
+
+-- a ledger and the buffer, or its length
+unfoldable pub readAnswer : List ℕ → ℕ → Answer
+readAnswer l room = answer (idOf l) room (restored l)
+
+unfoldable pub readLeft : List ℕ → List ℕ → List ℕ
+readLeft l out = left out (restored l)
