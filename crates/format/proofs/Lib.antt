@@ -1,1 +1,4 @@
 pub mod DigitLaws
+pub mod ParseLaws
+pub mod Good
+pub mod BodyLaws

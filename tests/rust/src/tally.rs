@@ -128,6 +128,9 @@ impl Tally {
             if !raw && end <= body.len() && length > fields {
                 self.note("id 3 plan with filler".to_string());
             }
+            if padding_set(&body[at..]) {
+                self.note("id 3 plan with padding bits set".to_string());
+            }
             at = end;
         }
         at
@@ -152,6 +155,15 @@ impl Tally {
         }
         out
     }
+}
+
+/// Whether an accepted plan is a bitmap whose last byte has bits behind the last slot.
+fn padding_set(plan: &[u8]) -> bool {
+    if plan[6] & 3 != 1 {
+        return false;
+    }
+    let size = usize::from(plan[19] & 0x7f) << 8 | usize::from(plan[20]);
+    size % 8 != 0 && plan[23 + size / 8] & 0xff >> (size % 8) != 0
 }
 
 /// For each plan: is it raw, and how many bytes behind plan_length do its fields take.
