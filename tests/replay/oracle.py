@@ -14,7 +14,9 @@ def oracle(*arguments, lines=None):
         sys.exit("the oracle is not built: run tests/rust/build first")
     text = "" if lines is None else "".join(line + "\n" for line in lines)
     run = subprocess.run([PROGRAM, *map(str, arguments)], input=text, text=True,
-                         stdout=subprocess.PIPE, check=True)
+                         stdout=subprocess.PIPE)
+    if run.returncode != 0:
+        sys.exit("the oracle stopped: " + " ".join(map(str, arguments)))
     return run.stdout.splitlines()
 
 

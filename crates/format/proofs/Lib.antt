@@ -2,3 +2,5 @@ pub mod DigitLaws
 pub mod ParseLaws
 pub mod Good
 pub mod BodyLaws
+pub mod LedgerLaws
+pub mod FineTables

@@ -1,0 +1,226 @@
+#!/usr/bin/env python3
+"""Reads a body by document 01's text alone and gives its output line, without the Rust.
+
+Use: read.py --check [SEED COUNT]     the replay list, and COUNT fresh cases of SEED
+
+A second opinion on the oracle: the two share no code, so a line on which they differ is either
+a fault of one of them or a place where document 01 and the Rust part.
+"""
+
+import os
+import sys
+
+sys.dont_write_bytecode = True
+sys.path.insert(0, os.path.dirname(os.path.abspath(__file__)))
+from oracle import oracle, stored  # noqa: E402
+
+
+class Refused(Exception):
+    def __init__(self, number, need, have):
+        super().__init__(f"R {number} {need} {have}")
+
+
+class Body:
+    """The bits of a body from a place on, and the ledger bytes written so far."""
+
+    def __init__(self, data):
+        self.end, self.place, self.out = 8 * len(data), 0, bytearray()
+        self.data, self.whole = data, int.from_bytes(data, "big")
+
+    def left(self):
+        return max(0, self.end - self.place)
+
+    def wants(self, number, bits):
+        if self.left() < bits:
+            raise Refused(number, bits, self.left())
+
+    def take(self, width):
+        """Bits of the body that are not copied to the ledger."""
+        self.place += width
+        if self.place > self.end:
+            raise Refused(1, self.place, self.end)
+        return self.whole >> self.end - self.place & (1 << width) - 1
+
+    def field(self, width):
+        value = self.take(width)
+        size = 1 if width <= 8 else 2 if width <= 16 else 4 if width <= 32 else 8
+        self.out += value.to_bytes(size, "big")
+        return value
+
+    def fields(self, *widths):
+        for width in widths:
+            self.field(width)
+
+    def signed(self, width):
+        value = self.take(width)
+        value -= (value >> width - 1) << width
+        self.out += value.to_bytes(4, "big", signed=True)
+
+    def clocks(self, count):
+        self.fields(*[33, 6, 9] * count)
+
+    def stamp(self):
+        self.fields(8, 7, 9, 32)
+
+
+def satellite(b):
+    b.fields(24, 7)
+    if b.field(1):
+        b.wants(4, 344)
+        b.fields(8, 16, *[32] * 10)
+    else:
+        b.wants(3, 24)
+        b.fields(16, 1, 7)
+
+
+def fragment(b):
+    b.field(32)
+    first = b.field(1)
+    b.field(1)
+    if first:
+        b.wants(5, 76)
+        b.field(4)
+        b.signed(18)
+        b.field(5)
+        b.signed(19)
+        b.fields(24, 6)
+    else:
+        b.field(4)
+    count = b.field(10)
+    b.wants(6, count * 32)
+    b.fields(*[32] * count)
+    for number in (7, 8):
+        b.field(6)
+        count = b.field(10)
+        b.wants(number, count * 80)
+        b.fields(*[32, 33, 6, 9] * count)
+
+
+def association(b):
+    b.wants(9, 152)
+    b.fields(*([1] * 4 if b.field(4) == 1 else [4]))
+    b.clocks(1)
+    b.fields(64, 32)
+
+
+def bitmap(b):
+    b.wants(11, 32)
+    b.field(1)
+    size = b.field(15)
+    b.fields(1, 15)
+    b.wants(12, size)
+    padding = -size % 8
+    slots = b.take(size) << padding
+    b.out += slots.to_bytes((size + padding) // 8, "big")
+    b.take(padding)
+
+
+def plan(b):
+    b.fields(32, 4)
+    end = b.take(12) * 8
+    end += b.place
+    b.field(6)
+    mode = b.field(2)
+    b.clocks(2)
+    if mode == 0:
+        b.wants(10, 96)
+        b.clocks(2)
+    elif mode == 1:
+        bitmap(b)
+    elif mode == 2:
+        b.wants(13, 192)
+        b.clocks(4)
+    else:
+        raw = b.data[b.place // 8:end // 8] if end <= b.end else b""
+        b.out += len(raw).to_bytes(2, "big") + raw
+    if b.place > end:
+        raise Refused(14, b.place - end, 0)
+    b.place = end
+
+
+def ephemeris(b):
+    b.fields(24, 3)
+    metadata, begin, stop, acceleration, covariance = [b.field(1) for _ in range(5)]
+    if metadata:
+        b.wants(16, 120)
+        b.stamp()
+        b.stamp()
+        b.fields(1, 1, 3, 3)
+        for number, flag in ((17, begin), (18, stop)):
+            if flag:
+                b.wants(number, 56)
+                b.stamp()
+    for _ in range(b.field(16)):
+        b.wants(19, 344 if acceleration else 248)
+        b.stamp()
+        b.fields(*[32] * (9 if acceleration else 6))
+    if covariance:
+        b.wants(20, 728)
+        b.stamp()
+        b.fields(*[32] * 21)
+
+
+ENTRIES = {0: (32, satellite), 1: (34, fragment), 3: (48, plan), 4: (32, ephemeris)}
+
+
+def entries(b, least, one):
+    """Entries while enough bits remain, with their number in front."""
+    count, at = 0, len(b.out)
+    while b.left() >= least:
+        one(b)
+        count += 1
+    b.out[at:at] = count.to_bytes(2, "big")
+
+
+def ledger(table_id, data):
+    b = Body(data)
+    if len(data) > 4096:
+        raise Refused(21, len(data), 4096)
+    if not data and table_id in (2, 4):
+        raise Refused(2, 1, 0)
+    if table_id > 4:
+        b.out += data
+    elif table_id == 2:
+        association(b)
+    else:
+        if table_id == 4:
+            b.wants(15, 64)
+            b.fields(4, 4)
+            b.stamp()
+        entries(b, *ENTRIES[table_id])
+    rest = bytes([1, table_id]) + b.out
+    return len(rest).to_bytes(2, "big") + rest
+
+
+def line(case):
+    case = bytes.fromhex(case)[:4098]
+    if not case:
+        return "no input"
+    try:
+        return ledger(case[0], case[1:]).hex()
+    except Refused as refused:
+        return str(refused)
+
+
+def check(name, cases, lines):
+    wrong = [i for i, (case, given) in enumerate(zip(cases, lines)) if line(case) != given]
+    if len(cases) != len(lines):
+        wrong.append(len(lines))
+    for i in wrong[:10]:
+        print(f"{name}, case {i + 1}: {cases[i][:60]}")
+    print(f"{name}: {len(cases)} cases, {len(wrong)} differences")
+    return len(wrong)
+
+
+def main():
+    if sys.argv[1:2] != ["--check"] or len(sys.argv) not in (2, 4):
+        sys.exit(__doc__)
+    wrong = check("replay list", stored("bodies.txt"), stored("ledgers.txt"))
+    if len(sys.argv) == 4:
+        cases = oracle("gen", sys.argv[2], sys.argv[3])
+        wrong += check("fresh cases", cases, oracle("ledger", lines=cases))
+    sys.exit(1 if wrong else 0)
+
+
+if __name__ == "__main__":
+    main()
