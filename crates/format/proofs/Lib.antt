@@ -4,3 +4,5 @@ pub mod Good
 pub mod BodyLaws
 pub mod LedgerLaws
 pub mod FineTables
+pub mod EntryLaws
+pub mod TableLaws
