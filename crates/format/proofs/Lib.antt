@@ -6,3 +6,5 @@ pub mod LedgerLaws
 pub mod FineTables
 pub mod EntryLaws
 pub mod TableLaws
+pub mod NumberLaws
+pub mod Demand

@@ -119,7 +119,7 @@ contentAs n opaque bs = got (asIs bs) []
 
 -- the plain body is not over 4096 bytes
 abbrev pub sized : Parse Table → Parse Table
-sized p = andThen p (λ t rest. cond (leb (length (plainOf t)) 4096) (got t []) (refused 26 (length (plainOf t)) 4096))
+sized p = andThen p (λ t rest. cond (leb (length (plainOf t)) 4096) (got t rest) (refused 26 (length (plainOf t)) 4096))
 
 -- the table id that a ledger names
 abbrev pub idOf : List ℕ → ℕ
