@@ -15,7 +15,36 @@ use Rattle.format.specs.Syntax.{Parse, got, refused}
 use Rattle.format.specs.Whole.{layout, Table, readAs, bodyRead, Accepted, plainOf, contentOf, ledgerOf, contentAs, sized, idOf, ledgerRead}
 use Rattle.format.proofs.DigitLaws.{length-digits, value-digits, digits-take, below-drop, digit-in}
 use Rattle.format.proofs.ParseLaws.{cond-got, then-got}
-use Rattle.format.proofs.TableLaws.{GoodTable, fine-layout, plain-bytes, content-length, read-plain, content-again, read-good, content-good}
+use Rattle.format.proofs.TableLaws.{GoodTable, fine-layout, plain-bytes, content-length, read-plain, content-again, read-good, content-good, read-all, content-all}
+
+sized-got : {t : Table} {rest : List ℕ} (p : Parse Table) → sized p ≡ got t rest → (p ≡ got t rest) × (length (plainOf t) ≤ 4096)
+sized-got {t} {rest} p e =
+    let o = then-got p (λ u r. cond (leb (length (plainOf u)) 4096) (got u r) (refused 26 (length (plainOf u)) 4096)) e in
+    let q = cond-got (leb (length (plainOf (o .0))) 4096) (got (o .0) (o .1)) 26 (length (plainOf (o .0))) 4096 (o .3) in
+    let s : got (o .0) (o .1) ≡ got t rest = q .1 in
+    let z : o .0 ≡ t = cc in
+    (o .2 ∙ s, rw z at (leb-true (length (plainOf (o .0))) 4096 (q .0)))
+
+-- nothing is left of a whole body or a whole ledger
+pub body-all : (id : ℕ) (b : List ℕ) {t : Table} {r : List ℕ} → bodyRead id b ≡ got t r → r ≡ []
+unfolding bodyRead
+body-all id b e = read-all (layout id) b (cond-got (leb (length b) 4096) (readAs (layout id) b) 21 (length b) 4096 e .1)
+
+-- what the tests of a ledger's front found, and its content
+passed : (l : List ℕ) {t : Table} {r : List ℕ} → ledgerRead l ≡ got t r
+    → (4 ≤ length l) × (value 256 (take 2 l) ≡ length l - 2) × (getD l 2 0 ≡ 1) × (contentAs (length l) (layout (idOf l)) (drop 4 l) ≡ got t r) × (length (plainOf t) ≤ 4096)
+unfolding ledgerRead
+passed l e =
+    let n : ℕ = length l in
+    let c : Parse Table = contentAs n (layout (idOf l)) (drop 4 l) in
+    let p = cond-got (leb 4 n && eqb (value 256 (take 2 l)) (n - 2)) (cond (eqb (getD l 2 0) 1) (sized c) (refused 24 2 0)) 23 0 0 e in
+    let a = and-eq-true-iff (leb 4 n) (eqb (value 256 (take 2 l)) (n - 2)) .0 (p .0) in
+    let o = cond-got (eqb (getD l 2 0) 1) (sized c) 24 2 0 (p .1) in
+    let z = sized-got c (o .1) in
+    (leb-true 4 n (a .0), eqb-true (value 256 (take 2 l)) (n - 2) (a .1), eqb-true (getD l 2 0) 1 (o .0), z .0, z .1)
+
+pub ledger-all : (l : List ℕ) {t : Table} {r : List ℕ} → ledgerRead l ≡ got t r → r ≡ []
+ledger-all l e = content-all (length l) (layout (idOf l)) (drop 4 l) (passed l e .3)
 
 -- ---- an accepted body and its plain body
 
@@ -77,14 +106,6 @@ ledger-again {id} {b} {t} p =
 
 -- ---- a ledger that is read
 
-sized-got : {t : Table} {rest : List ℕ} (p : Parse Table) → sized p ≡ got t rest → (p ≡ got t rest) × (length (plainOf t) ≤ 4096)
-sized-got {t} {rest} p e =
-    let o = then-got p (λ u r. cond (leb (length (plainOf u)) 4096) (got u r) (refused 26 (length (plainOf u)) 4096)) e in
-    let q = cond-got (leb (length (plainOf (o .0))) 4096) (got (o .0) (o .1)) 26 (length (plainOf (o .0))) 4096 (o .3) in
-    let s : got (o .0) (o .1) ≡ got t rest = q .1 in
-    let z : o .0 ≡ t = cc in
-    (o .2 ∙ s, rw z at (leb-true (length (plainOf (o .0))) 4096 (q .0)))
-
 cut : (l : List ℕ) → 4 ≤ length l → l ≡ take 2 l ++ (getD l 2 0 ∷ getD l 3 0 ∷ drop 4 l)
 cut [] h = absurd (omega arith)
 cut (a ∷ []) h = absurd (omega arith)
@@ -94,21 +115,15 @@ cut (a ∷ b ∷ c ∷ d ∷ l) h = refl
 
 -- it is the ledger of its id and its plain body, which are accepted
 pub read-accepted : (l : List ℕ) (t : Table) → Below 256 l → ledgerRead l ≡ got t [] → Accepted (idOf l) (plainOf t) t × (ledgerOf (idOf l) t ≡ l)
-unfolding ledgerRead ledgerOf
+unfolding ledgerOf
 read-accepted l t h e =
-    let n : ℕ = length l in
-    let c : Parse Table = contentAs n (layout (idOf l)) (drop 4 l) in
-    let p = cond-got (leb 4 n && eqb (value 256 (take 2 l)) (n - 2)) (cond (eqb (getD l 2 0) 1) (sized c) (refused 24 2 0)) 23 0 0 e in
-    let a = and-eq-true-iff (leb 4 n) (eqb (value 256 (take 2 l)) (n - 2)) .0 (p .0) in
-    let o = cond-got (eqb (getD l 2 0) 1) (sized c) 24 2 0 (p .1) in
-    let z = sized-got c (o .1) in
-    let g = content-good n (layout (idOf l)) (drop 4 l) t (fine-layout (idOf l)) (below-drop 256 4 l h) (z .0) in
-    let h4 : 4 ≤ n = leb-true 4 n (a .0) in
-    let hv : value 256 (take 2 l) ≡ n - 2 = eqb-true (value 256 (take 2 l)) (n - 2) (a .1) in
-    let h1 : getD l 2 0 ≡ 1 = eqb-true (getD l 2 0) 1 (o .0) in
+    let p = passed l e in
+    let g = content-good (length l) (layout (idOf l)) (drop 4 l) t (fine-layout (idOf l)) (below-drop 256 4 l h) (p .3) in
+    let h4 : 4 ≤ length l = p .0 in
+    let hv : value 256 (take 2 l) ≡ length l - 2 = p .1 in
     let lc : length (contentOf t) + 2 ≡ value 256 (take 2 l) = ap (λ (x : List ℕ). length x + 2) (g .1) ∙ omega (arith, length-drop 4 l) in
-    (good-accepted (idOf l) (digit-in 256 l 3 (omega arith) h) (g .0) (z .1),
-     rw (lc, digits-take 256 2 l h (omega arith), g .1) (rw h1 at (sym (cut l h4))))
+    (good-accepted (idOf l) (digit-in 256 l 3 (omega arith) h) (g .0) (p .4),
+     rw (lc, digits-take 256 2 l h (omega arith), g .1) (rw (p .2) at (sym (cut l h4))))
 
 -- ---- the demand
 

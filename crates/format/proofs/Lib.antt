@@ -8,3 +8,4 @@ pub mod EntryLaws
 pub mod TableLaws
 pub mod NumberLaws
 pub mod Demand
+pub mod CallLaws

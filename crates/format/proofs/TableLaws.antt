@@ -190,3 +190,34 @@ content-good n (many hd m s) bs t x h e =
     let g = counted-good n s (x .1) (value 256 (take 2 r)) (drop 2 r) (y .0) [] (below-drop 256 2 r (f .below)) (rw z at (y .2)) in
     list-found hd s m bs r (o .0) (y .0) t f (p .0) (g .0) (g .1) (g .2) (cc)
 content-good n opaque bs t x h e = let q : t ≡ asIs bs = cc in rw q (good-raw h, refl)
+
+-- ---- nothing is left of a whole body or a whole ledger
+
+pub read-all : (l : Layout) (b : List ℕ) {t : Table} {r : List ℕ} → readAs l b ≡ got t r → r ≡ []
+unfolding readAs
+read-all (sole s) b {t} {r} e =
+    let o = then-got (readBody (8 * length b) 0 s (bitsOf b)) (λ ts rest. got (one ts) []) e in
+    let z : got (one (o .0)) [] ≡ got t r = o .3 in
+    cc
+read-all (many h m s) b {t} {r} e =
+    let n : ℕ = 8 * length b in
+    let o = then-got (readBody n 0 h (bitsOf b)) (λ hs rest. andThen (entries n m s (length rest) rest) (λ es over. got (list hs es) [])) e in
+    let p = then-got (entries n m s (length (o .1)) (o .1)) (λ es over. got (list (o .0) es) []) (o .3) in
+    let z : got (list (o .0) (p .0)) [] ≡ got t r = p .3 in
+    cc
+read-all opaque b e = cc
+
+ended-all : (n : ℕ) (p : Parse Table) {t : Table} {r : List ℕ} → ended n p ≡ got t r → r ≡ []
+ended-all n p {t} {r} e =
+    let o = then-got p (λ u rest. cond (eqb (length rest) 0) (got u []) (refused 23 (n - length rest) 0)) e in
+    let q = cond-got (eqb (length (o .1)) 0) (got (o .0) []) 23 (n - length (o .1)) 0 (o .3) in
+    let z : got (o .0) [] ≡ got t r = q .1 in
+    cc
+
+pub content-all : (n : ℕ) (l : Layout) (bs : List ℕ) {t : Table} {r : List ℕ} → contentAs n l bs ≡ got t r → r ≡ []
+unfolding contentAs
+content-all n (sole s) bs e = ended-all n (andThen (readLedger n s bs) (λ ts rest. got (one ts) rest)) e
+content-all n (many h m s) bs e =
+    ended-all n (andThen (readLedger n h bs) (λ hs rest.
+      grant n 2 true rest (andThen (counted n s (value 256 (take 2 rest)) (drop 2 rest)) (λ es over. got (list hs es) over)))) e
+content-all n opaque bs e = cc

@@ -1,6 +1,7 @@
 -- What the ledger's writer and reader answer, and what they leave in the buffer that is lent.
 -- Assumes nothing: these are definitions.
 use Prim.Native.Nat.{ℕ, _≤_}
+use mathlib.Core.Path.{_≡_}
 use mathlib.Core.Bool.{cond}
 use mathlib.Core.List.{List, []}
 use lib.Dec.{leb}
@@ -82,3 +83,16 @@ readAnswer l room = answer (idOf l) room (restored l)
 
 unfoldable pub readLeft : List ℕ → List ℕ → List ℕ
 readLeft l out = left out (restored l)
+
+-- ---- what a caller sees
+
+-- the writer, given a table id, a body and a buffer, accepts and leaves l at the buffer's start
+pub record Wrote (id : ℕ) (b out l : List ℕ) : Type 0 where
+  pub accepts : numberOf (writeAnswer id b (length out)) ≡ 0
+  pub result : resultIn (writeAnswer id b (length out)) (writeLeft id b out) ≡ l
+
+-- the reader, given a ledger and a buffer, accepts, names the table id, and leaves the body b at the buffer's start
+pub record Gave (l out : List ℕ) (id : ℕ) (b : List ℕ) : Type 0 where
+  pub accepts : numberOf (readAnswer l (length out)) ≡ 0
+  pub tableId : tableIdOf (readAnswer l (length out)) ≡ id
+  pub result : resultIn (readAnswer l (length out)) (readLeft l out) ≡ b
