@@ -8,7 +8,7 @@ use Prim.Native.Nat.{ℕ, _+_, _*_, _<_, _≤_}
 use native.Mathlib.Nat.{zero-add}
 use native.Mathlib.Omega.{arith}
 use lib.Dec.{leb}
-use lib.ListN.{length, take, drop, length-append, length-drop}
+use lib.ListN.{length, drop, length-append, length-drop}
 use lib.Seq.{take-append-seam, drop-append-seam}
 use borrow.Author.Tests.{le-leb, leb-true}
 use Rattle.format.specs.Digits.{Below, splice}
@@ -19,8 +19,8 @@ use Rattle.format.specs.Calls.{numberOf, tableIdOf, lengthOf, answer, le
 use Rattle.format.specs.declared.Answer.{Answer}
 use Rattle.format.specs.declared.Answer.the-variants.{Done, Refused}
 use Rattle.format.proofs.ParseLaws.{then-got}
-use Rattle.format.proofs.NumberLaws.{Numbered, numbered-then, numbered-bodyRead, numbered-ledgerRead}
-use Rattle.format.proofs.Demand.{IsLedger, body-all, ledger-all, plain-again, ledger-length, ledger-again, read-accepted, same-ledger, id-of, ledger-exactly}
+use Rattle.format.proofs.NumberLaws.{Numbered, accepts, refuses, numbered-then, numbered-bodyRead, numbered-ledgerRead}
+use Rattle.format.proofs.Demand.{IsLedger, body-all, ledger-all, ledger-length, ledger-again, read-accepted, same-ledger, id-of, ledger-exactly}
 
 -- ---- any result and the buffer that is lent for it
 
@@ -48,7 +48,7 @@ refused-keeps id out (got xs rest) h = go (leb (length xs) (length out)) h
 accepts-result : (id room : ℕ) (p : Parse (List ℕ)) → Numbered p → numberOf (answer id room p) ≡ 0
     → (xs : List ℕ) × (rest : List ℕ) × (p ≡ got xs rest) × (length xs ≤ room)
 unfolding answer numberOf
-accepts-result id room (refused x y z) n e = absurd (omega (arith, n))
+accepts-result id room (refused x y z) (refuses n) e = absurd (omega (arith, n))
 accepts-result id room (got xs rest) n e = (xs, rest, refl, go (leb (length xs) room) refl e)
   where
     go : (t : Bool) → leb (length xs) room ≡ t → numberOf (cond t (Done id (length xs)) (Refused (refuse 22 (length xs) room))) ≡ 0 → length xs ≤ room
@@ -71,7 +71,8 @@ result-given id out xs rest p e h =
       tableId = refl;
       size = refl;
       result = take-append-seam xs (drop (0 + length xs) out);
-      behind = drop-append-seam xs (drop (0 + length xs) out) ∙ ap (λ (k : ℕ). drop k out) (zero-add (length xs)) })
+      behind = drop-append-seam xs (drop (0 + length xs) out) ∙ ap (λ (k : ℕ). drop k out) (zero-add (length xs));
+    })
 
 -- ---- the writer
 
@@ -84,7 +85,7 @@ filed-table id b xs rest e =
 
 numbered-filed : (id : ℕ) (b : List ℕ) → Numbered (filed id b)
 unfolding filed
-numbered-filed id b = numbered-then (bodyRead id b) (λ t r. got (ledgerOf id t) []) (numbered-bodyRead id b) (λ _ _. tt)
+numbered-filed id b = numbered-then (bodyRead id b) (λ t r. got (ledgerOf id t) []) (numbered-bodyRead id b) (λ _ _. accepts)
 
 -- demand 1: a body is accepted exactly if its reading meets no refusal and there is room for its ledger
 pub write-exactly : (id : ℕ) (b : List ℕ) (room : ℕ)
@@ -97,6 +98,7 @@ write-exactly id b room = (there, back)
         let o = accepts-result id room (filed id b) (numbered-filed id b) e in
         let q = filed-table id b (o .0) (o .1) (o .2) in
         (q .0, q .1, rw (q .2) at (o .3))
+
     back : (t : Table) × (bodyRead id b ≡ got t []) × (length (ledgerOf id t) ≤ room) → numberOf (answer id room (filed id b)) ≡ 0
     back r = rw (r .1, le-leb (length (ledgerOf id (r .0))) room (r .2))
 
@@ -129,7 +131,7 @@ restored-table l xs rest e =
 
 numbered-restored : (l : List ℕ) → Numbered (restored l)
 unfolding restored
-numbered-restored l = numbered-then (ledgerRead l) (λ t r. got (plainOf t) []) (numbered-ledgerRead l) (λ _ _. tt)
+numbered-restored l = numbered-then (ledgerRead l) (λ t r. got (plainOf t) []) (numbered-ledgerRead l) (λ _ _. accepts)
 
 pub read-gave : {l : List ℕ} {t : Table} (out : List ℕ) → ledgerRead l ≡ got t [] → length (plainOf t) ≤ length out → Gave l out (idOf l) (plainOf t)
 unfolding readAnswer readLeft restored
@@ -161,9 +163,10 @@ pub share-exactly : {id id′ : ℕ} {b b′ out out′ l l′ : List ℕ} → i
 share-exactly {id} {id′} {b} {b′} {l = l} {l′ = l′} hi hi′ hb hb′ w w′ =
     let o = wrote-accepted hi hb w in
     let o′ = wrote-accepted hi′ hb′ w′ in
-    let s = same-ledger (o .1) (o′ .1) in
-    (λ e. let r = s .0 (o .2 ∙ e ∙ sym (o′ .2)) in (r .0, plain-of (o .1) ∙ ap (λ (x : List ℕ). got x []) (r .1) ∙ sym (plain-of (o′ .1))),
-     λ r. sym (o .2) ∙ s .1 (r .0, inj (sym (plain-of (o .1)) ∙ r .1 ∙ plain-of (o′ .1))) ∙ o′ .2)
+    let s = same-ledger (o .1) (o′ .1) in (
+      λ e. let r = s .0 (o .2 ∙ e ∙ sym (o′ .2)) in (r .0, plain-of (o .1) ∙ ap (λ (x : List ℕ). got x []) (r .1) ∙ sym (plain-of (o′ .1))),
+      λ r. sym (o .2) ∙ s .1 (r .0, inj (sym (plain-of (o .1)) ∙ r .1 ∙ plain-of (o′ .1))) ∙ o′ .2,
+    )
   where
     inj : {x y : List ℕ} → got x [] ≡ got y [] → x ≡ y
     inj e = cc
@@ -199,6 +202,7 @@ read-exactly l out hl h = (there, back)
         let o = accepts-result (idOf l) (length out) (restored l) (numbered-restored l) e in
         let q = restored-table l (o .0) (o .1) (o .2) in
         ledger-exactly l hl .0 (q .0, q .1)
+
     back : IsLedger l → numberOf (answer (idOf l) (length out) (restored l)) ≡ 0
     back r =
         let o = ledger-exactly l hl .1 r in

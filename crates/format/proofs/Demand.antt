@@ -1,26 +1,25 @@
 -- Demand 3 of the definitions: bodies, their plain bodies and their ledgers.
 -- Assumes nothing.
-use mathlib.Core.Path.{_≡_, refl, sym, ap, ap₂, _∙_, subst}
-use mathlib.Core.Bool.{true, cond, _&&_, and-eq-true-iff}
+use mathlib.Core.Path.{_≡_, refl, sym, ap, ap₂, _∙_}
+use mathlib.Core.Bool.{true, _&&_, and-eq-true-iff}
 use mathlib.Core.Logic.{_↔_}
 use mathlib.Core.List.{List, [], _∷_, _++_}
 use Prim.Native.Nat.{ℕ, suc, _+_, _*_, _-_, _^_, _<_, _≤_}
 use native.Mathlib.Omega.{arith}
 use lib.Dec.{leb, eqb}
 use lib.ListN.{length, take, drop, getD, length-append, length-drop}
-use lib.Seq.{length-take-le}
 use borrow.Author.Tests.{le-leb, leb-true, eq-eqb, eqb-true}
 use Rattle.format.specs.Digits.{digits, value, Below}
-use Rattle.format.specs.Syntax.{Parse, got, refused}
-use Rattle.format.specs.Whole.{layout, Table, readAs, bodyRead, Accepted, plainOf, contentOf, ledgerOf, contentAs, sized, idOf, ledgerRead}
+use Rattle.format.specs.Syntax.{Parse, got}
+use Rattle.format.specs.Whole.{layout, Table, bodyRead, Accepted, plainOf, contentOf, ledgerOf, contentAs, sized, idOf, ledgerRead}
 use Rattle.format.proofs.DigitLaws.{length-digits, value-digits, digits-take, below-drop, digit-in}
 use Rattle.format.proofs.ParseLaws.{cond-got, then-got}
 use Rattle.format.proofs.TableLaws.{GoodTable, fine-layout, plain-bytes, content-length, read-plain, content-again, read-good, content-good, read-all, content-all}
 
 sized-got : {t : Table} {rest : List ℕ} (p : Parse Table) → sized p ≡ got t rest → (p ≡ got t rest) × (length (plainOf t) ≤ 4096)
 sized-got {t} {rest} p e =
-    let o = then-got p (λ u r. cond (leb (length (plainOf u)) 4096) (got u r) (refused 26 (length (plainOf u)) 4096)) e in
-    let q = cond-got (leb (length (plainOf (o .0))) 4096) (got (o .0) (o .1)) 26 (length (plainOf (o .0))) 4096 (o .3) in
+    let o = then-got p _ e in
+    let q = cond-got (leb (length (plainOf (o .0))) 4096) _ _ _ _ (o .3) in
     let s : got (o .0) (o .1) ≡ got t rest = q .1 in
     let z : o .0 ≡ t = cc in
     (o .2 ∙ s, rw z at (leb-true (length (plainOf (o .0))) 4096 (q .0)))
@@ -28,7 +27,7 @@ sized-got {t} {rest} p e =
 -- nothing is left of a whole body or a whole ledger
 pub body-all : (id : ℕ) (b : List ℕ) {t : Table} {r : List ℕ} → bodyRead id b ≡ got t r → r ≡ []
 unfolding bodyRead
-body-all id b e = read-all (layout id) b (cond-got (leb (length b) 4096) (readAs (layout id) b) 21 (length b) 4096 e .1)
+body-all id b e = read-all (layout id) b (cond-got (leb (length b) 4096) _ _ _ _ e .1)
 
 -- what the tests of a ledger's front found, and its content
 passed : (l : List ℕ) {t : Table} {r : List ℕ} → ledgerRead l ≡ got t r
@@ -37,9 +36,9 @@ unfolding ledgerRead
 passed l e =
     let n : ℕ = length l in
     let c : Parse Table = contentAs n (layout (idOf l)) (drop 4 l) in
-    let p = cond-got (leb 4 n && eqb (value 256 (take 2 l)) (n - 2)) (cond (eqb (getD l 2 0) 1) (sized c) (refused 24 2 0)) 23 0 0 e in
+    let p = cond-got (leb 4 n && eqb (value 256 (take 2 l)) (n - 2)) _ _ _ _ e in
     let a = and-eq-true-iff (leb 4 n) (eqb (value 256 (take 2 l)) (n - 2)) .0 (p .0) in
-    let o = cond-got (eqb (getD l 2 0) 1) (sized c) 24 2 0 (p .1) in
+    let o = cond-got (eqb (getD l 2 0) 1) _ _ _ _ (p .1) in
     let z = sized-got c (o .1) in
     (leb-true 4 n (a .0), eqb-true (value 256 (take 2 l)) (n - 2) (a .1), eqb-true (getD l 2 0) 1 (o .0), z .0, z .1)
 
@@ -52,7 +51,7 @@ ledger-all l e = content-all (length l) (layout (idOf l)) (drop 4 l) (passed l e
 pub accepted-good : {id : ℕ} {b : List ℕ} {t : Table} → Accepted id b t → GoodTable (layout id) t × (length (plainOf t) ≤ length b) × (length b ≤ 4096)
 unfolding bodyRead
 accepted-good {id} {b} {t} p =
-    let q = cond-got (leb (length b) 4096) (readAs (layout id) b) 21 (length b) 4096 (p .reads) in
+    let q = cond-got (leb (length b) 4096) _ _ _ _ (p .reads) in
     let r = read-good (layout id) b t (fine-layout id) (p .bytes) (q .1) in
     (r .0, r .1, leb-true (length b) 4096 (q .0))
 
@@ -63,7 +62,8 @@ good-accepted id {t} h g m =
     record {
       byte = h;
       bytes = plain-bytes g;
-      reads = rw (le-leb (length (plainOf t)) 4096 m, read-plain (fine-layout id) g m) }
+      reads = rw (le-leb (length (plainOf t)) 4096 m, read-plain (fine-layout id) g m);
+    }
 
 -- the plain body is accepted and has the same fields, hence the same ledger and itself for its plain body
 pub plain-again : {id : ℕ} {b : List ℕ} {t : Table} → Accepted id b t → Accepted id (plainOf t) t
@@ -74,8 +74,12 @@ pub ledger-length : {id : ℕ} {b : List ℕ} {t : Table} → Accepted id b t �
 unfolding ledgerOf
 ledger-length {id} {b} {t} p =
     let g = accepted-good p in
-    omega (arith, content-length (fine-layout id) (g .0), length-append (digits 256 2 (length (contentOf t) + 2)) (1 ∷ id ∷ contentOf t),
-      length-digits 256 2 (length (contentOf t) + 2))
+    omega (
+      arith,
+      content-length (fine-layout id) (g .0),
+      length-append (digits 256 2 (length (contentOf t) + 2)) (1 ∷ id ∷ contentOf t),
+      length-digits 256 2 (length (contentOf t) + 2),
+    )
 
 -- ---- a ledger that was written
 
@@ -86,13 +90,16 @@ id-of id t = refl
 -- the front of a ledger: what its tests find
 front : (c : List ℕ) (id : ℕ) → length c + 2 < 256 ^ 2
     → let l : List ℕ = digits 256 2 (length c + 2) ++ (1 ∷ id ∷ c) in
-      (leb 4 (length l) ≡ true) × (eqb (value 256 (take 2 l)) (length l - 2) ≡ true) × (getD l 2 0 ≡ 1) × (getD l 3 0 ≡ id) × (drop 4 l ≡ c)
+    (leb 4 (length l) ≡ true) × (eqb (value 256 (take 2 l)) (length l - 2) ≡ true) × (getD l 2 0 ≡ 1) × (getD l 3 0 ≡ id) × (drop 4 l ≡ c)
 unfolding digits
 front c id h =
-    let v : value 256 (digits 256 2 (length c + 2)) ≡ length c + 2 = value-digits 256 2 (length c + 2) (omega arith) h in
-    (le-leb 4 (suc (suc (suc (suc (length c))))) (omega arith),
-     eq-eqb (value 256 (digits 256 2 (length c + 2))) (suc (suc (suc (suc (length c)))) - 2) (v ∙ omega arith),
-     refl, refl, refl)
+    let v : value 256 (digits 256 2 (length c + 2)) ≡ length c + 2 = value-digits 256 2 (length c + 2) (omega arith) h in (
+      le-leb 4 (suc (suc (suc (suc (length c))))) (omega arith),
+      eq-eqb (value 256 (digits 256 2 (length c + 2))) (suc (suc (suc (suc (length c)))) - 2) (v ∙ omega arith),
+      refl,
+      refl,
+      refl,
+    )
 
 -- it is read, and gives the id and the fields, and so the plain body
 pub ledger-again : {id : ℕ} {b : List ℕ} {t : Table} → Accepted id b t → ledgerRead (ledgerOf id t) ≡ got t []
@@ -100,9 +107,15 @@ unfolding ledgerRead ledgerOf
 ledger-again {id} {b} {t} p =
     let g = accepted-good p in
     let f = front (contentOf t) id (omega (arith, content-length (fine-layout id) (g .0))) in
-    rw (f .0, f .1, f .2, f .3, f .4,
-        content-again (length (digits 256 2 (length (contentOf t) + 2) ++ (1 ∷ id ∷ contentOf t))) (fine-layout id) (g .0) (omega arith),
-        le-leb (length (plainOf t)) 4096 (omega arith))
+    rw (
+      f .0,
+      f .1,
+      f .2,
+      f .3,
+      f .4,
+      content-again (length (digits 256 2 (length (contentOf t) + 2) ++ (1 ∷ id ∷ contentOf t))) (fine-layout id) (g .0) (omega arith),
+      le-leb (length (plainOf t)) 4096 (omega arith),
+    )
 
 -- ---- a ledger that is read
 
@@ -121,9 +134,10 @@ read-accepted l t h e =
     let g = content-good (length l) (layout (idOf l)) (drop 4 l) t (fine-layout (idOf l)) (below-drop 256 4 l h) (p .3) in
     let h4 : 4 ≤ length l = p .0 in
     let hv : value 256 (take 2 l) ≡ length l - 2 = p .1 in
-    let lc : length (contentOf t) + 2 ≡ value 256 (take 2 l) = ap (λ (x : List ℕ). length x + 2) (g .1) ∙ omega (arith, length-drop 4 l) in
-    (good-accepted (idOf l) (digit-in 256 l 3 (omega arith) h) (g .0) (p .4),
-     rw (lc, digits-take 256 2 l h (omega arith), g .1) (rw (p .2) at (sym (cut l h4))))
+    let lc : length (contentOf t) + 2 ≡ value 256 (take 2 l) = ap (λ (x : List ℕ). length x + 2) (g .1) ∙ omega (arith, length-drop 4 l) in (
+      good-accepted (idOf l) (digit-in 256 l 3 (omega arith) h) (g .0) (p .4),
+      rw (lc, digits-take 256 2 l h (omega arith), g .1) (rw (p .2) at (sym (cut l h4))),
+    )
 
 -- ---- the demand
 
@@ -134,10 +148,13 @@ same-ledger {id} {id′} {t = t} {t′ = t′} p p′ = (one-way, other)
   where
     inj : {u v : Table} → got u [] ≡ got v [] → u ≡ v
     inj e = cc
+
     one-way : ledgerOf id t ≡ ledgerOf id′ t′ → (id ≡ id′) × (plainOf t ≡ plainOf t′)
-    one-way e =
-        (sym (id-of id t) ∙ ap idOf e ∙ id-of id′ t′,
-         ap plainOf (inj (sym (ledger-again p) ∙ ap ledgerRead e ∙ ledger-again p′)))
+    one-way e = (
+      sym (id-of id t) ∙ ap idOf e ∙ id-of id′ t′,
+      ap plainOf (inj (sym (ledger-again p) ∙ ap ledgerRead e ∙ ledger-again p′)),
+    )
+
     other : (id ≡ id′) × (plainOf t ≡ plainOf t′) → ledgerOf id t ≡ ledgerOf id′ t′
     other e = ap₂ ledgerOf (e .0) (inj (sym (plain-again p .reads) ∙ ap₂ bodyRead (e .0) (e .1) ∙ plain-again p′ .reads))
 
@@ -151,6 +168,7 @@ pub record IsLedger (l : List ℕ) : Type 0 where
 
 -- a byte string is read exactly if it is the ledger of some pair
 pub ledger-exactly : (l : List ℕ) → Below 256 l → ((t : Table) × (ledgerRead l ≡ got t [])) ↔ IsLedger l
-ledger-exactly l h =
-    (λ r. let o = read-accepted l (r .0) h (r .1) in record { id = idOf l; body = plainOf (r .0); table = r .0; accepted = o .0; is = o .1 },
-     λ r. (r .table, ap ledgerRead (sym (r .is)) ∙ ledger-again (r .accepted)))
+ledger-exactly l h = (
+  λ r. let o = read-accepted l (r .0) h (r .1) in record { id = idOf l; body = plainOf (r .0); table = r .0; accepted = o .0; is = o .1 },
+  λ r. (r .table, ap ledgerRead (sym (r .is)) ∙ ledger-again (r .accepted)),
+)

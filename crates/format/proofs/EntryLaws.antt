@@ -9,7 +9,7 @@ use lib.Dec.{leb}
 use lib.ListN.{length, length-append}
 use borrow.Author.Tests.{le-leb, lt-leb}
 use Rattle.format.specs.Digits.{Below}
-use Rattle.format.specs.Syntax.{Syntax, Field, Parse, got, refused, andThen, push}
+use Rattle.format.specs.Syntax.{Syntax, Field, Parse, got, andThen, push}
 use Rattle.format.specs.Body.{readBody, plain}
 use Rattle.format.specs.Ledger.{ledger, readLedger}
 use Rattle.format.specs.Whole.{entries, plains, ledgers, counted}
@@ -69,9 +69,11 @@ module _ (n m : ℕ) (s : Syntax) (f : Good.Fine false 0 0 s) (least : Good.Leas
   entries-again (suc turns) (ts ∷ es) g sm l h =
       let q : length (plains (ts ∷ es)) ≡ length (plain ts) + length (plains es) = length-plains ts es in
       let lm : m ≤ length (plain ts) = Good.least m (g .0) least in
-      rw (le-leb m (length (plain ts ++ plains es)) (omega (arith, length-append (plain ts) (plains es))),
-          reread n 0 (plains es) (g .0) (omega (arith, q, sm)) (omega (arith, q, l)) (λ t. absurd t),
-          entries-again turns es (g .1) (omega (arith, q, sm)) (omega (arith, q, l)) (omega (arith, q, h)))
+      rw (
+        le-leb m (length (plain ts ++ plains es)) (omega (arith, length-append (plain ts) (plains es))),
+        reread n 0 (plains es) (g .0) (omega (arith, q, sm)) (omega (arith, q, l)) (λ t. absurd t),
+        entries-again turns es (g .1) (omega (arith, q, sm)) (omega (arith, q, l)) (omega (arith, q, h)),
+      )
 
   -- what is read is good
   abbrev pub Read-entries : List ℕ → List (List Field) → List ℕ → Type 0

@@ -61,9 +61,17 @@ least-position = omega arith
 -- a list of delivery systems, with its reserved bits and its count
 fine-systems : (reserved count id nm : Name) (a : ℕ) (s : Syntax) (b c : ℕ) → T (ltb 0 a) → Fine false (b + 6 + 10) (c + 1 + 2) s
     → Fine false b c (u reserved 6 (bits count 10 (λ n. need a (n * 80) (times n (system id nm) s))))
-fine-systems reserved count id nm a s b c p h =
-    (tt, λ _. (tt, λ n. (p, least-times 80 n (system id nm) s (least-system id nm),
-      keeps-times n (system id nm) (keeps-system id nm) false (b + 6 + 10) (c + 1 + 2) s h)))
+fine-systems reserved count id nm a s b c p h = (
+  tt,
+  λ _. (
+    tt,
+    λ n. (
+      p,
+      least-times 80 n (system id nm) s (least-system id nm),
+      keeps-times n (system id nm) (keeps-system id nm) false (b + 6 + 10) (c + 1 + 2) s h,
+    ),
+  ),
+)
 
 fine-new : (b c : ℕ) → b % 8 ≡ 0 → 4 * c ≤ b → Fine false b c new
 fine-new b c e l =
@@ -72,16 +80,30 @@ fine-new b c e l =
     (fine-end false (b + 6 + 10 + 6 + 10) (c + 1 + 2 + 1 + 2) (omega arith) (omega arith)))
 
 fine-delivery : (b c : ℕ) → (b + 10) % 8 ≡ 0 → 4 * (c + 2) ≤ b + 10 → Fine false b c delivery
-fine-delivery b c e l =
-    (tt, λ n. (tt, least-times 32 n (u "delivery_system_id" 32) new (least-32 "delivery_system_id"),
-      keeps-times n (u "delivery_system_id" 32) (keeps-32 "delivery_system_id") false (b + 10) (c + 2) new (fine-new (b + 10) (c + 2) e l)))
+fine-delivery b c e l = (
+  tt,
+  λ n. (
+    tt,
+    least-times 32 n (u "delivery_system_id" 32) new (least-32 "delivery_system_id"),
+    keeps-times n (u "delivery_system_id" 32) (keeps-32 "delivery_system_id") false (b + 10) (c + 2) new (fine-new (b + 10) (c + 2) e l),
+  ),
+)
 
 pub fine-fragment : Fine false 0 0 fragment
 unfolding fragment
-fine-fragment =
-    (tt, λ _. (tt, λ _. (tt, λ _.
-      ((tt, λ _ _ _ _ _ _. least-zero delivery, (tt, λ _. (tt, λ _. (tt, λ _. (tt, λ _. (tt, λ _. (tt, λ _. fine-delivery 110 21 refl (omega arith)))))))),
-       (tt, λ _. fine-delivery 38 7 refl (omega arith))))))
+fine-fragment = (
+  tt,
+  λ _. (
+    tt,
+    λ _. (
+      tt,
+      λ _. (
+        (tt, λ _ _ _ _ _ _. least-zero delivery, (tt, λ _. (tt, λ _. (tt, λ _. (tt, λ _. (tt, λ _. (tt, λ _. fine-delivery 110 21 refl (omega arith)))))))),
+        (tt, λ _. fine-delivery 38 7 refl (omega arith)),
+      ),
+    ),
+  ),
+)
 
 pub least-fragment : Least 34 fragment
 unfolding fragment
@@ -96,31 +118,69 @@ fine-time b c e l =
 
 pub fine-association : Fine false 0 0 association
 unfolding association
-fine-association =
-    (tt, omega arith, (tt, omega arith, (tt, λ _.
-      ((tt, λ _. (tt, λ _. (tt, λ _. (tt, λ _. fine-time 8 5 refl (omega arith))))), (tt, λ _. fine-time 8 2 refl (omega arith))))))
+fine-association = (
+  tt,
+  omega arith,
+  (
+    tt,
+    omega arith,
+    (
+      tt,
+      λ _.
+          ((tt, λ _. (tt, λ _. (tt, λ _. (tt, λ _. fine-time 8 5 refl (omega arith))))), (tt, λ _. fine-time 8 2 refl (omega arith))),
+    ),
+  ),
+)
 
 -- ---- id 3
 
 fine-mode : (m : ℕ) → Fine true 56 7 (mode m)
-fine-mode m =
-    ((tt, omega arith, keeps-clock "dwell_duration" true 56 7 (clock "on_time" end) (keeps-clock "on_time" true 56 7 end done)),
-     ((tt, λ _ size _ _. least-zero (slots "slot_transmission_on" 12 size end),
-       (tt, λ _. (tt, λ size. (tt, λ _. (tt, λ _. (tt, refl, fine-end true 88 13 refl (omega arith))))))),
-      ((tt, omega arith, keeps-clock "grid_size" true 56 7 (clock "revisit_duration" sleep)
-         (keeps-clock "revisit_duration" true 56 7 sleep
-         (keeps-clock "sleep_time" true 56 7 (clock "sleep_duration" end) (keeps-clock "sleep_duration" true 56 7 end done)))),
-       (tt, refl, tt))))
+fine-mode m = (
+  (tt, omega arith, keeps-clock "dwell_duration" true 56 7 (clock "on_time" end) (keeps-clock "on_time" true 56 7 end done)),
+  (
+    (
+      tt,
+      λ _ size _ _. least-zero (slots "slot_transmission_on" 12 size end),
+      (tt, λ _. (tt, λ size. (tt, λ _. (tt, λ _. (tt, refl, fine-end true 88 13 refl (omega arith)))))),
+    ),
+    (
+      (
+        tt,
+        omega arith,
+        keeps-clock "grid_size" true 56 7 (clock "revisit_duration" sleep)
+            (keeps-clock "revisit_duration" true 56 7 sleep
+            (keeps-clock "sleep_time" true 56 7 (clock "sleep_duration" end) (keeps-clock "sleep_duration" true 56 7 end done))),
+      ),
+      (tt, refl, tt),
+    ),
+  ),
+)
   where
     sleep : Syntax
     sleep = clock "sleep_time" (clock "sleep_duration" end)
+
     done : Fine true 56 7 end
     done = fine-end true 56 7 refl (omega arith)
 
 pub fine-beamhopping : Fine false 0 0 beamhopping
 unfolding beamhopping
-fine-beamhopping = (tt, λ _. (tt, λ _. (refl, (tt, λ _. (tt, λ m.
-    keeps-clock "time_of_application" true 56 7 (clock "cycle_duration" (mode m)) (keeps-clock "cycle_duration" true 56 7 (mode m) (fine-mode m)))))))
+fine-beamhopping = (
+  tt,
+  λ _. (
+    tt,
+    λ _. (
+      refl,
+      (
+        tt,
+        λ _. (
+          tt,
+          λ m.
+              keeps-clock "time_of_application" true 56 7 (clock "cycle_duration" (mode m)) (keeps-clock "cycle_duration" true 56 7 (mode m) (fine-mode m)),
+        ),
+      ),
+    ),
+  ),
+)
 
 pub least-beamhopping : Least 48 beamhopping
 unfolding beamhopping
@@ -141,9 +201,10 @@ keeps-acceleration : Keeps acceleration
 keeps-acceleration j b c r f = (tt, λ _. (tt, λ _. (tt, λ _. fine-more j b c (b + 32 + 32 + 32) (c + 4 + 4 + 4) r (omega arith) (omega arith) f)))
 
 keeps-ephemeris : (a : ℕ) → Keeps (ephemeris a)
-keeps-ephemeris a j b c r h =
-    ((tt, λ _ _ _ _ _ _ _ _ _ _ _ _ _. least-zero r, keeps-motion j b c (acceleration r) (keeps-acceleration j b c r h)),
-     (tt, λ _ _ _ _ _ _ _ _ _ _. least-zero r, keeps-motion j b c r h))
+keeps-ephemeris a j b c r h = (
+  (tt, λ _ _ _ _ _ _ _ _ _ _ _ _ _. least-zero r, keeps-motion j b c (acceleration r) (keeps-acceleration j b c r h)),
+  (tt, λ _ _ _ _ _ _ _ _ _ _. least-zero r, keeps-motion j b c r h),
+)
 
 keeps-usable : (n : ℕ) (nm : Name) (flag : ℕ) → T (ltb 0 n) → Keeps (usable n nm flag)
 keeps-usable n nm flag p j b c r h = ((p, λ _ _ _ _. least-zero r, keeps-stamp nm j b c r h), h)
@@ -154,6 +215,7 @@ fine-covariance flag b c e l =
   where
     line : Syntax → Syntax
     line = u "covariance_elements" 32
+
     done : Fine false b c end
     done = fine-end false b c e l
 
@@ -163,13 +225,73 @@ fine-ephemerides a v b c e l =
 
 pub fine-position3 : Fine false 0 0 position3
 unfolding position3
-fine-position3 =
-    (tt, λ _. (tt, λ _. (tt, λ _. (tt, λ start. (tt, λ stop. (tt, λ a. (tt, λ v.
-      ((tt, λ _ _ _ _ _ _ _ _ _ _ _ _. least-zero (usable 17 "usable_start_time" start (usable 18 "usable_stop_time" stop (ephemerides a v))),
-        (tt, λ _. (tt, λ _. (tt, λ _. (tt, λ _. (tt, λ _. (tt, λ _. (tt, λ _. (tt, λ _. (tt, λ _. (tt, λ _. (tt, λ _. (tt, λ _.
-          keeps-usable 17 "usable_start_time" start tt false 152 30 (usable 18 "usable_stop_time" stop (ephemerides a v))
-            (keeps-usable 18 "usable_stop_time" stop tt false 152 30 (ephemerides a v) (fine-ephemerides a v 152 30 refl (omega arith)))))))))))))))),
-       fine-ephemerides a v 32 10 refl (omega arith)))))))))
+fine-position3 = (
+  tt,
+  λ _. (
+    tt,
+    λ _. (
+      tt,
+      λ _. (
+        tt,
+        λ start. (
+          tt,
+          λ stop. (
+            tt,
+            λ a. (
+              tt,
+              λ v. (
+                (
+                  tt,
+                  λ _ _ _ _ _ _ _ _ _ _ _ _. least-zero (usable 17 "usable_start_time" start (usable 18 "usable_stop_time" stop (ephemerides a v))),
+                  (
+                    tt,
+                    λ _. (
+                      tt,
+                      λ _. (
+                        tt,
+                        λ _. (
+                          tt,
+                          λ _. (
+                            tt,
+                            λ _. (
+                              tt,
+                              λ _. (
+                                tt,
+                                λ _. (
+                                  tt,
+                                  λ _. (
+                                    tt,
+                                    λ _. (
+                                      tt,
+                                      λ _. (
+                                        tt,
+                                        λ _. (
+                                          tt,
+                                          λ _.
+                                              keeps-usable 17 "usable_start_time" start tt false 152 30 (usable 18 "usable_stop_time" stop (ephemerides a v))
+                                              (keeps-usable 18 "usable_stop_time" stop tt false 152 30 (ephemerides a v) (fine-ephemerides a v 152 30 refl (omega arith))),
+                                        ),
+                                      ),
+                                    ),
+                                  ),
+                                ),
+                              ),
+                            ),
+                          ),
+                        ),
+                      ),
+                    ),
+                  ),
+                ),
+                fine-ephemerides a v 32 10 refl (omega arith),
+              ),
+            ),
+          ),
+        ),
+      ),
+    ),
+  ),
+)
 
 pub least-position3 : Least 32 position3
 unfolding position3

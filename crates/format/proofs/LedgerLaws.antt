@@ -12,7 +12,7 @@ use lib.Pow.{pow-mono, pow-pos, high-ones}
 use lib.Seq.{take-at, drop-at, length-take-le, drop-append-seam, take-append-seam}
 use borrow.Author.Tests.{leb-true, eq-eqb, eqb-true}
 use Rattle.format.specs.Digits.{digits, value, Below, bitsOf, bytesOf}
-use Rattle.format.specs.Syntax.{Name, Sign, unsigned, signed, Syntax, end, field, when, need, slots, plan, raw, Field, num, flags, bytes, len, Parse, got, push}
+use Rattle.format.specs.Syntax.{Sign, unsigned, signed, Syntax, end, field, when, need, slots, plan, raw, Field, num, flags, bytes, len, got, push}
 use Rattle.format.specs.Body.{wholes, padded, plain}
 use Rattle.format.specs.Ledger.{size, widened, ledger, grant, readLedger}
 use Rattle.format.proofs.DigitLaws.{length-digits, value-digits, digits-take, below-take, below-drop, below-append, bits-bytes, length-bytes, bytes-bits, length-bits, bits-below, zeros-below, value-zeros, value-zero, has-at, back-of}
@@ -28,9 +28,11 @@ size-fits w h = go8 (leb w 8) refl
     go32 : (t : Bool) → leb w 32 ≡ t → 2 ^ w ≤ 256 ^ cond t 4 8
     go32 true e = pow-mono {i = w} {j = 32} (leb-true w 32 e)
     go32 false e = pow-mono {i = w} {j = 64} (leb→le w 64 h)
+
     go16 : (t : Bool) → leb w 16 ≡ t → 2 ^ w ≤ 256 ^ cond t 2 (cond (leb w 32) 4 8)
     go16 true e = pow-mono {i = w} {j = 16} (leb-true w 16 e)
     go16 false e = go32 (leb w 32) refl
+
     go8 : (t : Bool) → leb w 8 ≡ t → 2 ^ w ≤ 256 ^ cond t 1 (cond (leb w 16) 2 (cond (leb w 32) 4 8))
     go8 true e = pow-mono {i = w} {j = 8} (leb-true w 8 e)
     go8 false e = go16 (leb w 16) refl
@@ -41,6 +43,7 @@ widened-lt signed w v h l = go (ltb v (2 ^ (w - 1)))
   where
     p : 2 ^ w ≤ 2 ^ 32
     p = pow-mono {i = w} {j = 32} (leb→le w 32 h)
+
     go : (t : Bool) → cond t v (v + (2 ^ 32 - 2 ^ w)) < 256 ^ 4
     go true = omega (arith, p)
     go false = omega (arith, p)
@@ -52,8 +55,10 @@ widened-mod signed w v h l = go (ltb v (2 ^ (w - 1)))
   where
     s : 32 - w + w ≡ 32
     s = omega (arith, leb→le w 32 h)
+
     p : 2 ^ 32 - 2 ^ w ≡ (2 ^ (32 - w) - 1) * 2 ^ w
     p = rw s at (high-ones (32 - w) w)
+
     go : (t : Bool) → cond t v (v + (2 ^ 32 - 2 ^ w)) % 2 ^ w ≡ v
     go true = mod-eq-of-lt l
     go false = rw p (add-mul-mod-self-right v (2 ^ (32 - w) - 1) (2 ^ w) ∙ mod-eq-of-lt l)
@@ -71,9 +76,16 @@ module _ (n : ℕ) where
       let d : List ℕ = digits 256 q x in
       let l : length d ≡ q = length-digits 256 q x in
       let t : length (plain (num g nm w v ∷ ts)) ≡ w + length (plain ts) = Good.plain-num g nm w v ts in
-      rw (append-assoc d (ledger ts) rest, take-at d (ledger ts ++ rest) q l, drop-at d (ledger ts ++ rest) q l,
-          has-at q d (ledger ts ++ rest) l, value-digits 256 q x (omega arith) (widened-lt g w v hw h), widened-mod g w v hw h, eq-eqb x x refl,
-          relet rest r (omega (arith, t, m)))
+      rw (
+        append-assoc d (ledger ts) rest,
+        take-at d (ledger ts ++ rest) q l,
+        drop-at d (ledger ts ++ rest) q l,
+        has-at q d (ledger ts ++ rest) l,
+        value-digits 256 q x (omega arith) (widened-lt g w v hw h),
+        widened-mod g w v hw h,
+        eq-eqb x x refl,
+        relet rest r (omega (arith, t, m)),
+      )
   relet rest (Good.g-yes r) m = relet rest r m
   relet rest (Good.g-no r) m = relet rest r m
   relet rest (Good.g-need a w h r) m = relet rest r m
@@ -84,8 +96,18 @@ module _ (n : ℕ) where
       let ly : length y ≡ q = length-bytes q (bs ++ z) in
       let b : bitsOf y ≡ bs ++ z = bits-bytes q (bs ++ z) (Good.length-padded bs) (below-append 2 bs z h (zeros-below (8 * q - length bs))) in
       let t : length (plain (flags nm bs ∷ ts)) ≡ 8 * q + length (plain ts) = Good.plain-flags nm bs ts in
-      rw (← c, append-assoc y (ledger ts) rest, take-at y (ledger ts ++ rest) q ly, drop-at y (ledger ts ++ rest) q ly, has-at q y (ledger ts ++ rest) ly,
-          b, take-append-seam bs z, drop-append-seam bs z, value-zeros (8 * q - length bs), relet rest r (omega (arith, t, m)))
+      rw (
+        ← c,
+        append-assoc y (ledger ts) rest,
+        take-at y (ledger ts ++ rest) q ly,
+        drop-at y (ledger ts ++ rest) q ly,
+        has-at q y (ledger ts ++ rest) ly,
+        b,
+        take-append-seam bs z,
+        drop-append-seam bs z,
+        value-zeros (8 * q - length bs),
+        relet rest r (omega (arith, t, m)),
+      )
   relet rest (Good.g-plan nm {ts} h r) m = rw (relet rest r (omega (arith, Good.plain-len nm ts, m)))
   relet rest (Good.g-raw nm bs h a) m =
       let q : ℕ = length bs / 8 in
@@ -95,8 +117,18 @@ module _ (n : ℕ) where
       let ly : length y ≡ q = length-bytes q bs in
       let hq : q < 256 ^ 2 = omega (arith, m, Good.plain-bytes nm bs []) in
       let b : bitsOf y ≡ bs = bits-bytes q bs (omega arith) h in
-      rw (append-nil (d ++ y), append-assoc d y rest, take-at d (y ++ rest) 2 ld, drop-at d (y ++ rest) 2 ld, has-at 2 d (y ++ rest) ld,
-          value-digits 256 2 q (omega arith) hq, take-at y rest q ly, drop-at y rest q ly, has-at q y rest ly, b)
+      rw (
+        append-nil (d ++ y),
+        append-assoc d y rest,
+        take-at d (y ++ rest) 2 ld,
+        drop-at d (y ++ rest) 2 ld,
+        has-at 2 d (y ++ rest) ld,
+        value-digits 256 2 q (omega arith) hq,
+        take-at y rest q ly,
+        drop-at y rest q ly,
+        has-at q y rest ly,
+        b,
+      )
 
 -- ---- what is read is good, and was written so
 
@@ -135,7 +167,8 @@ module _ (n : ℕ) where
       rw (o .2) (record {
         good = Good.g-field g nm w k v (f .0) (mod-lt x (pow-pos w)) (r .good);
         back = back-of q (digits 256 q (widened g w v)) (ledger (o .0)) rest bs (ap (digits 256 q) (eqb-true (widened g w v) x (p .1)) ∙ digits-take 256 q bs h (p .0)) (r .back);
-        below = r .below })
+        below = r .below;
+      })
   found i b c (when true y z) bs f h e = let r = found i b c y bs (f .0) h e in record { good = Good.g-yes (r .good); back = r .back; below = r .below }
   found i b c (when false y z) bs f h e = let r = found i b c z bs (f .1) h e in record { good = Good.g-no (r .good); back = r .back; below = r .below }
   found i b c (need a w k) bs f h e =
@@ -149,11 +182,12 @@ module _ (n : ℕ) where
       let o = push-got (flags nm fs) (readLedger n k (drop q bs)) (p .2) in
       let r : Found i k (drop q bs) (o .0) rest = found i b c k (drop q bs) (f .2) (below-drop 256 q bs h) (o .1) in
       let s : (length fs ≡ m) × (bytesOf q (fs ++ replicate (8 * q - m) 0) ≡ ys) =
-          slots-back m ys (below-take 256 q bs h) (length-take-le q bs (p .0)) (eqb-true (value 2 (drop m (bitsOf ys))) 0 (p .1)) in
+      slots-back m ys (below-take 256 q bs h) (length-take-le q bs (p .0)) (eqb-true (value 2 (drop m (bitsOf ys))) 0 (p .1)) in
       rw (o .2) (record {
         good = Good.g-slots nm a m fs (s .0) (below-take 2 m (bitsOf ys) (bits-below ys)) (r .good);
         back = back-of q (bytesOf (wholes (length fs)) (padded fs)) (ledger (o .0)) rest bs (rw (s .0) (s .1)) (r .back);
-        below = r .below })
+        below = r .below;
+      })
   found i b c (plan nm k) bs {ts} {rest} f h e =
       let o = push-got (len nm) (readLedger n k bs) e in
       let r : Found true k bs (o .0) rest = found true (b + 12) c k bs (f .1) h (o .1) in
@@ -177,4 +211,5 @@ module _ (n : ℕ) where
         good = Good.good-raw nm i (bitsOf ys) (f .0) (bits-below ys) (omega arith);
         back = rw (append-nil (digits 256 2 (length (bitsOf ys) / 8) ++ bytesOf (length (bitsOf ys) / 8) (bitsOf ys)), l8, y′)
             (back-of 2 (digits 256 2 q) ys (drop q after) bs (digits-take 256 2 bs h (p .0)) (take-append-drop q after));
-        below = below-drop 256 q after ha })
+        below = below-drop 256 q after ha;
+      })

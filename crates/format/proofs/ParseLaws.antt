@@ -31,8 +31,8 @@ module _ {A : Type 0} {a : A} {rest : List ℕ} where
   pub grant-got : (n q : ℕ) (t : Bool) (bs : List ℕ) (p : Parse A) → grant n q t bs p ≡ got a rest
       → (q ≤ length bs) × (t ≡ true) × (p ≡ got a rest)
   grant-got n q t bs p e =
-      let o = cond-got (leb q (length bs)) (cond t p (refused 25 (n - length bs) 0)) 23 (n - length bs) 0 e in
-      let r = cond-got t p 25 (n - length bs) 0 (o .1) in
+      let o = cond-got (leb q (length bs)) _ _ _ _ e in
+      let r = cond-got t p _ _ _ (o .1) in
       (leb-true q (length bs) (o .0), r .0, r .1)
 
 pub push-got : {A : Type 0} {xs : List A} {rest : List ℕ} (x : A) (p : Parse (List A)) → push x p ≡ got xs rest
@@ -45,7 +45,7 @@ pub close-got : {ts : List Field} {rest : List ℕ} (n e : ℕ) (p : Parse (List
     → (r : List ℕ) × (p ≡ got ts r) × (n - length r ≤ e) × (rest ≡ drop (e - (n - length r)) r)
 close-got {ts} {rest} n e (got us r) q =
     let o : (leb (n - length r) e ≡ true) × (got us (drop (e - (n - length r)) r) ≡ got ts rest) =
-        cond-got (leb (n - length r) e) (got us (drop (e - (n - length r)) r)) 14 (n - length r - e) 0 q in
+    cond-got (leb (n - length r) e) _ _ _ _ q in
     let same : got us (drop (e - (n - length r)) r) ≡ got ts rest = o .1 in
     (r, cc, leb-true (n - length r) e (o .0), cc)
 close-got n e (refused x y z) q = let o : _≡_ {A = ℕ} 0 1 = cc in absurd (omega arith)

@@ -1,16 +1,16 @@
 -- Whole bodies and whole ledgers under each layout: what is read is good, and is read again from either form.
 -- Assumes nothing.
 use mathlib.Core.Path.{_≡_, refl, sym, _∙_}
-use mathlib.Core.Bool.{Bool, true, false, cond}
+use mathlib.Core.Bool.{true, false}
 use mathlib.Core.List.{List, [], _∷_, _++_, append-nil}
-use Prim.Native.Nat.{ℕ, zero, suc, _+_, _*_, _-_, _/_, _%_, _^_, _<_, _≤_}
+use Prim.Native.Nat.{ℕ, zero, suc, _+_, _*_, _/_, _%_, _^_, _<_, _≤_}
 use native.Mathlib.Omega.{arith}
 use lib.Dec.{eqb}
 use lib.ListN.{length, take, drop, length-append, take-append-drop}
 use lib.Seq.{take-at, drop-at}
 use borrow.Author.Tests.{eqb-true}
-use Rattle.format.specs.Digits.{digits, value, Below, bitsOf, bytesOf}
-use Rattle.format.specs.Syntax.{Syntax, Field, Parse, got, refused, andThen}
+use Rattle.format.specs.Digits.{digits, value, Below, bitsOf}
+use Rattle.format.specs.Syntax.{Syntax, Field, Parse, got, andThen}
 use Rattle.format.specs.Body.{readBody, plain}
 use Rattle.format.specs.Ledger.{ledger, readLedger, grant}
 use Rattle.format.specs.Whole.{Layout, sole, many, opaque, layout, Table, one, list, asIs, entries, readAs, plains, ledgers, packed, plainOf, contentOf, counted, ended, contentAs}
@@ -60,8 +60,16 @@ content-length x (good-one {ts} g) = omega (arith, Good.whole 0 0 g x, length-by
 content-length x (good-list {s} {hs} {es} g gs) =
     let p : List ℕ = plain hs ++ plains es in
     let c : List ℕ = digits 256 2 (length es) in
-    omega (arith, Good.whole 0 0 g (x .0), whole-entries s es (x .1) gs, length-bytes (length p / 8) p, length-append (plain hs) (plains es),
-      length-append (ledger hs) (c ++ ledgers es), length-append c (ledgers es), length-digits 256 2 (length es))
+    omega (
+      arith,
+      Good.whole 0 0 g (x .0),
+      whole-entries s es (x .1) gs,
+      length-bytes (length p / 8) p,
+      length-append (plain hs) (plains es),
+      length-append (ledger hs) (c ++ ledgers es),
+      length-append c (ledgers es),
+      length-digits 256 2 (length es),
+    )
 content-length x (good-raw h) = omega arith
 
 bits-packed : (bs : List ℕ) → length bs % 8 ≡ 0 → Below 2 bs → bitsOf (packed bs) ≡ bs
@@ -86,9 +94,11 @@ read-plain x (good-list {s} {m = k} {hs} {es} g gs) m =
     let lb : length (packed p) ≡ length p / 8 = length-bytes (length p / 8) p in
     let sm : length p ≤ 32768 = omega (arith, m) in
     let b : Below 2 p = below-append 2 (plain hs) (plains es) (Good.plain-below g) (entries-below s es gs) in
-    rw (bits-packed p (omega arith) b,
-        reread (8 * length (packed p)) 0 (plains es) g (omega arith) (omega arith) (λ t. absurd t),
-        entries-again (8 * length (packed p)) k s (x .1) (x .2) (x .3) (length (plains es)) es gs (omega arith) (omega arith) (omega arith))
+    rw (
+      bits-packed p (omega arith) b,
+      reread (8 * length (packed p)) 0 (plains es) g (omega arith) (omega arith) (λ t. absurd t),
+      entries-again (8 * length (packed p)) k s (x .1) (x .2) (x .3) (length (plains es)) es gs (omega arith) (omega arith) (omega arith),
+    )
 read-plain x (good-raw h) m = refl
 
 -- ---- a ledger's content is read again
@@ -106,8 +116,14 @@ content-again n x (good-list {s} {m = k} {hs} {es} g gs) m =
     let c : List ℕ = digits 256 2 (length es) in
     let lc : length c ≡ 2 = length-digits 256 2 (length es) in
     let hc : length es < 256 ^ 2 = omega (arith, count-le s k es (x .2) (x .3) gs) in
-    rw (relet n (c ++ ledgers es) g (omega arith), has-at 2 c (ledgers es) lc, take-at c (ledgers es) 2 lc, drop-at c (ledgers es) 2 lc,
-        value-digits 256 2 (length es) (omega arith) hc, rw (append-nil (ledgers es)) at (counted-again n s (x .1) es [] gs (omega arith)))
+    rw (
+      relet n (c ++ ledgers es) g (omega arith),
+      has-at 2 c (ledgers es) lc,
+      take-at c (ledgers es) 2 lc,
+      drop-at c (ledgers es) 2 lc,
+      value-digits 256 2 (length es) (omega arith) hc,
+      rw (append-nil (ledgers es)) at (counted-again n s (x .1) es [] gs (omega arith)),
+    )
 content-again n x (good-raw h) m = refl
 
 -- ---- what a body gives is good, and its plain body no longer
@@ -131,7 +147,7 @@ read-good (sole s) b t x h e =
     let o = then-got (readBody n 0 s (bitsOf b)) (λ ts rest. got (one ts) []) e in
     let q : got (one (o .0)) [] ≡ got t [] = o .3 in
     one-read s b (o .1) (o .0) t
-      (sound n (omega arith) false 0 0 0 s (bitsOf b) x (bits-below b) (omega (arith, length-bits b)) (omega (arith, length-bits b)) (λ t. absurd t) (o .2)) (cc)
+    (sound n (omega arith) false 0 0 0 s (bitsOf b) x (bits-below b) (omega (arith, length-bits b)) (omega (arith, length-bits b)) (λ t. absurd t) (o .2)) (cc)
 read-good (many hd m s) b t x h e =
     let n : ℕ = 8 * length b in
     let n8 : n % 8 ≡ 0 = omega arith in
@@ -139,7 +155,7 @@ read-good (many hd m s) b t x h e =
     let p = then-got (entries n m s (length (o .1)) (o .1)) (λ es over. got (list (o .0) es) []) (o .3) in
     let q : got (list (o .0) (p .0)) [] ≡ got t [] = p .3 in
     let r : Read false hd (bitsOf b) (o .0) (o .1) =
-        sound n n8 false 0 0 0 hd (bitsOf b) (x .0) (bits-below b) (omega (arith, length-bits b)) (omega (arith, length-bits b)) (λ t. absurd t) (o .2) in
+    sound n n8 false 0 0 0 hd (bitsOf b) (x .0) (bits-below b) (omega (arith, length-bits b)) (omega (arith, length-bits b)) (λ t. absurd t) (o .2) in
     let g = entries-good n m s (x .1) (x .2) (x .3) n8 (length (o .1)) (o .1) (p .0) (p .1) (r .below) (r .aligned) (omega (arith, r .fits, length-bits b)) (p .2) in
     list-read hd s m b (o .1) (p .1) (o .0) (p .0) t r (g .0) (g .1) (cc)
 read-good opaque b t x h e = let q : t ≡ asIs b = cc in rw q (good-raw h, omega arith)
@@ -148,8 +164,8 @@ read-good opaque b t x h e = let q : t ≡ asIs b = cc in rw q (good-raw h, omeg
 
 ended-got : {t : Table} (n : ℕ) (p : Parse Table) → ended n p ≡ got t [] → p ≡ got t []
 ended-got {t} n p e =
-    let o = then-got p (λ u rest. cond (eqb (length rest) 0) (got u []) (refused 23 (n - length rest) 0)) e in
-    let q = cond-got (eqb (length (o .1)) 0) (got (o .0) []) 23 (n - length (o .1)) 0 (o .3) in
+    let o = then-got p _ e in
+    let q = cond-got (eqb (length (o .1)) 0) _ _ _ _ (o .3) in
     let s : got (o .0) [] ≡ got t [] = q .1 in
     let z : o .1 ≡ [] = empty (o .1) (eqb-true (length (o .1)) 0 (q .0)) in
     let r : p ≡ got (o .0) (o .1) = o .2 in
@@ -178,7 +194,7 @@ content-good n (sole s) bs t x h e =
     one-found s bs (o .0) t (found n false 0 0 s bs x h (rw z at (o .2))) (cc)
 content-good n (many hd m s) bs t x h e =
     let k : List Field → List ℕ → Parse Table = λ hs rest.
-        grant n 2 true rest (andThen (counted n s (value 256 (take 2 rest)) (drop 2 rest)) (λ es over. got (list hs es) over)) in
+    grant n 2 true rest (andThen (counted n s (value 256 (take 2 rest)) (drop 2 rest)) (λ es over. got (list hs es) over)) in
     let o = then-got (readLedger n hd bs) k (ended-got n (andThen (readLedger n hd bs) k) e) in
     let r : List ℕ = o .1 in
     let entries : Parse (List (List Field)) = counted n s (value 256 (take 2 r)) (drop 2 r) in
@@ -196,7 +212,7 @@ content-good n opaque bs t x h e = let q : t ≡ asIs bs = cc in rw q (good-raw 
 pub read-all : (l : Layout) (b : List ℕ) {t : Table} {r : List ℕ} → readAs l b ≡ got t r → r ≡ []
 unfolding readAs
 read-all (sole s) b {t} {r} e =
-    let o = then-got (readBody (8 * length b) 0 s (bitsOf b)) (λ ts rest. got (one ts) []) e in
+    let o = then-got (readBody (8 * length b) 0 s (bitsOf b)) _ e in
     let z : got (one (o .0)) [] ≡ got t r = o .3 in
     cc
 read-all (many h m s) b {t} {r} e =
@@ -209,8 +225,8 @@ read-all opaque b e = cc
 
 ended-all : (n : ℕ) (p : Parse Table) {t : Table} {r : List ℕ} → ended n p ≡ got t r → r ≡ []
 ended-all n p {t} {r} e =
-    let o = then-got p (λ u rest. cond (eqb (length rest) 0) (got u []) (refused 23 (n - length rest) 0)) e in
-    let q = cond-got (eqb (length (o .1)) 0) (got (o .0) []) 23 (n - length (o .1)) 0 (o .3) in
+    let o = then-got p _ e in
+    let q = cond-got (eqb (length (o .1)) 0) _ _ _ _ (o .3) in
     let z : got (o .0) [] ≡ got t r = q .1 in
     cc
 
@@ -219,5 +235,5 @@ unfolding contentAs
 content-all n (sole s) bs e = ended-all n (andThen (readLedger n s bs) (λ ts rest. got (one ts) rest)) e
 content-all n (many h m s) bs e =
     ended-all n (andThen (readLedger n h bs) (λ hs rest.
-      grant n 2 true rest (andThen (counted n s (value 256 (take 2 rest)) (drop 2 rest)) (λ es over. got (list hs es) over)))) e
+    grant n 2 true rest (andThen (counted n s (value 256 (take 2 rest)) (drop 2 rest)) (λ es over. got (list hs es) over)))) e
 content-all n opaque bs e = cc

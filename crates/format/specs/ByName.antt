@@ -1,14 +1,13 @@
 -- A field's value by the field's name.
 -- Assumes nothing: these are definitions.
-use Prim.Native.Nat.{ℕ, _+_, _*_}
+use Prim.Native.Nat.{ℕ, _+_}
 use mathlib.Core.Bool.{cond}
 use mathlib.Core.List.{List, [], _∷_}
-use lib.Dec.{leb}
 use lib.IntN.{ℤ, pos}
 use lib.ListN.{length}
 use lib.Text.{eqt}
 use Rattle.format.specs.Digits.{twos}
-use Rattle.format.specs.Syntax.{Name, Sign, unsigned, signed, Field, num, flags, bytes, len}
+use Rattle.format.specs.Syntax.{Name, unsigned, signed, Field, num, flags, bytes, len}
 
 abbrev pub name : Field → Name
 name (num g nm w v) = nm

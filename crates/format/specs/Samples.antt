@@ -4,24 +4,29 @@ use Prim.Native.Nat.{ℕ, _+_}
 use mathlib.Core.Path.{_≡_, refl}
 use mathlib.Core.List.{List, [], _∷_, _++_, map}
 use lib.IntN.{ℤ, pos, negsuc}
-use lib.ListN.{length, replicate, take, drop, getD}
-use Rattle.format.specs.Digits.{digits, value, bitsOf, bytesOf, twos}
+use lib.ListN.{length, replicate}
+use Rattle.format.specs.Digits.{digits, value, bitsOf, bytesOf, twos, splice}
 use Rattle.format.specs.Syntax.{got, refused, andThen}
 use Rattle.format.specs.Tables.{position, fragment, association, beamhopping, header, position3}
 use Rattle.format.specs.Body.{readBody, plain}
 use Rattle.format.specs.Ledger.{ledger, readLedger}
 use Rattle.format.specs.Whole.{entriesOf, entries, readAs, bodyRead, plains, ledgers, plainOf, contentOf, ledgerOf, counted, contentAs, idOf, ledgerRead}
 use Rattle.format.specs.ByName.{theInt, firstBy}
-use Rattle.format.specs.Calls.{filed, restored}
+use Rattle.format.specs.Refusals.{refuse}
+use Rattle.format.specs.Calls.{answer, left, filed, restored, writeAnswer, writeLeft, readAnswer, readLeft}
+use Rattle.format.specs.declared.Answer.{Answer}
+use Rattle.format.specs.declared.Answer.the-variants.{Done, Refused}
 
 -- A case and what it must give: a body under its id and its ledger, or its refusal; a body of fragments and their latitudes;
--- a ledger, its id and its plain body, or its refusal.
+-- a ledger, its id and its plain body, or its refusal; a call with a buffer, the answer, and the buffer afterwards.
 pub data Sample : Type 0 where
   files : ℕ → List ℕ → List ℕ → Sample
   refuses : ℕ → List ℕ → ℕ → ℕ → ℕ → Sample
   latitudes : List ℕ → List ℤ → Sample
   restores : List ℕ → ℕ → List ℕ → Sample
   denies : List ℕ → ℕ → ℕ → ℕ → Sample
+  writes : ℕ → List ℕ → List ℕ → Answer → List ℕ → Sample
+  reads : List ℕ → List ℕ → Answer → List ℕ → Sample
 
 abbrev pub Holds : Sample → Type 0
 Holds (files id b l) = filed id b ≡ got l []
@@ -29,6 +34,8 @@ Holds (refuses id b x y z) = filed id b ≡ refused x y z
 Holds (latitudes b vs) = andThen (bodyRead 1 b) (λ t rest. got (map (theInt "centre_latitude") (entriesOf t)) rest) ≡ got vs []
 Holds (restores l id b) = (idOf l ≡ id) × (restored l ≡ got b [])
 Holds (denies l x y z) = restored l ≡ refused x y z
+Holds (writes id b out a out′) = (writeAnswer id b (length out) ≡ a) × (writeLeft id b out ≡ out′)
+Holds (reads l out a out′) = (readAnswer l (length out) ≡ a) × (readLeft l out ≡ out′)
 
 abbrev pub AllHold : List Sample → Type 0
 AllHold [] = Unit {0}
@@ -114,3 +121,23 @@ pub ledger-samples-hold : AllHold ledger-samples
 unfolding ledger-samples restored ledgerRead contentAs counted readLedger plainOf plains plain bitsOf bytesOf digits value position fragment association beamhopping header position3
 ledger-samples-hold =
     (refl, (refl, (refl, (refl, (refl, (refl, ((refl, refl), (refl, (refl, (refl, (refl, (refl, ((refl, refl), (refl, ((refl, refl), (refl, tt))))))))))))))))
+
+-- ---- buffers: one byte short, and one byte more than the result
+
+-- a buffer with something in it
+abbrev used : ℕ → List ℕ
+used n = replicate n 0xee
+
+pub call-samples : List Sample
+call-samples =
+    writes 0 [] (used 5) (Refused (refuse 22 6 5)) (used 5) ∷
+    writes 0 [] (used 7) (Done 0 6) (0 ∷ 4 ∷ 1 ∷ 0 ∷ 0 ∷ 0 ∷ 0xee ∷ []) ∷
+    writes 2 [] (used 5) (Refused (refuse 2 1 0)) (used 5) ∷
+    reads (satellite 0 1) (used 6) (Refused (refuse 22 7 6)) (used 6) ∷
+    reads (satellite 0 1) (used 8) (Done 0 7) (0 ∷ 0 ∷ 7 ∷ 0 ∷ 1 ∷ 0x20 ∷ 0x80 ∷ 0xee ∷ []) ∷
+    reads (satellite 1 1) (used 6) (Refused (refuse 25 6 0)) (used 6) ∷
+    []
+
+pub call-samples-hold : AllHold call-samples
+unfolding call-samples writeAnswer writeLeft readAnswer readLeft answer left splice filed bodyRead readAs entries readBody ledgerOf contentOf plains ledgers ledger plain restored ledgerRead contentAs counted readLedger plainOf bitsOf bytesOf digits value position association
+call-samples-hold = ((refl, refl), ((refl, refl), ((refl, refl), ((refl, refl), ((refl, refl), ((refl, refl), tt))))))

@@ -1,0 +1,42 @@
+-- What reading bits at a place of a body finds, and the places at which a body may be read.
+-- Assumes nothing: these are definitions.
+use Prim.Native.Nat.{ℕ, _+_, _*_, _≤_}
+use mathlib.Core.Bool.{cond}
+use mathlib.Core.List.{List}
+use lib.Dec.{leb}
+use lib.ListN.{length}
+use Rattle.format.specs.Digits.{valueAt, twos}
+use Rattle.format.specs.Refusals.{refuse}
+use Rattle.format.specs.declared.Refusal.{Refusal}
+use Rattle.bits.specs.declared.Bits.{Bits}
+use Rattle.bits.specs.declared.Bits.the-variants.{Value, Refused}
+use Rattle.bits.specs.declared.SignedBits.{SignedBits}
+use Rattle.bits.specs.declared.SignedBits.the-variants as signed
+
+-- a place in a body, or at its end; the bound on the length keeps sums of places from wrapping
+pub record Place (s : List ℕ) (at : ℕ) : Type 0 where
+  pub short : length s ≤ 65536
+  pub within : at ≤ 8 * length s
+
+-- a place from which w bits are all there
+pub record Room (s : List ℕ) (at w : ℕ) : Type 0 where
+  pub short : length s ≤ 65536
+  pub fits : at + w ≤ 8 * length s
+
+-- w bits that are all there: their number and the place behind them; else the bits needed and the bits there are
+unfoldable pub readAt : List ℕ → ℕ → ℕ → Bits
+readAt s at w =
+    cond (leb (at + w) (8 * length s)) (Value (valueAt s at w) (at + w)) (Refused (refuse 1 (at + w) (8 * length s)))
+
+-- the same where the bits are a signed number
+unfoldable pub readSigned : List ℕ → ℕ → ℕ → SignedBits
+readSigned s at w =
+    cond
+    (leb (at + w) (8 * length s))
+    (signed.Value (twos w (valueAt s at w)) (at + w))
+    (signed.Refused (refuse 1 (at + w) (8 * length s)))
+
+-- the refusal in an answer; zeros where there is none
+unfoldable pub refusalOf : Bits → Refusal
+refusalOf (Value v n) = refuse 0 0 0
+refusalOf (Refused f) = f
