@@ -12,10 +12,10 @@ use lib.ListN.{length, drop, length-append, length-drop}
 use lib.Seq.{take-append-seam, drop-append-seam}
 use borrow.Author.Tests.{le-leb, leb-true}
 use Rattle.format.specs.Digits.{Below, splice}
-use Rattle.format.specs.Refusals.{refuse}
 use Rattle.format.specs.Syntax.{Parse, got, refused, andThen}
 use Rattle.format.specs.Whole.{Table, bodyRead, Accepted, plainOf, ledgerOf, idOf, ledgerRead}
 use Rattle.format.specs.Calls.{numberOf, tableIdOf, lengthOf, answer, left, resultIn, Enough, filed, plained, restored, writeAnswer, writeLeft, readAnswer, readLeft, Wrote, Gave}
+use Rattle.format.specs.declared.Refusal.{Refusal}
 use Rattle.format.specs.declared.Answer.{Answer}
 use Rattle.format.specs.declared.Answer.the-variants.{Done, Refused}
 use Rattle.format.proofs.ParseLaws.{then-got}
@@ -38,22 +38,22 @@ left-length out (got xs rest) = go (leb (length xs) (length out)) refl
 pub refused-keeps : (id : ℕ) (out : List ℕ) (p : Parse (List ℕ)) → (numberOf (answer id (length out) p) ≡ 0 → ⊥) → left out p ≡ out
 unfolding answer left numberOf
 refused-keeps id out (refused x y z) h = refl
-refused-keeps id out (got xs rest) h = go (leb (length xs) (length out)) h
+refused-keeps id out (got xs rest) h = go (leb (length xs) (length out)) _ h
   where
-    go : (t : Bool) → (numberOf (cond t (Done id (length xs)) (Refused (refuse 22 (length xs) (length out)))) ≡ 0 → ⊥) → cond t (splice out 0 xs) out ≡ out
-    go true k = absurd (k refl)
-    go false k = refl
+    go : (t : Bool) (f : Refusal) → (numberOf (cond t (Done id (length xs)) (Refused f)) ≡ 0 → ⊥) → cond t (splice out 0 xs) out ≡ out
+    go true f k = absurd (k refl)
+    go false f k = refl
 
 -- where the answer is acceptance, there is a result and room for it
 accepts-result : (id room : ℕ) (p : Parse (List ℕ)) → Numbered p → numberOf (answer id room p) ≡ 0
     → (xs : List ℕ) × (rest : List ℕ) × (p ≡ got xs rest) × (length xs ≤ room)
 unfolding answer numberOf
 accepts-result id room (refused x y z) (refuses n) e = absurd (omega (arith, n))
-accepts-result id room (got xs rest) n e = (xs, rest, refl, go (leb (length xs) room) refl e)
+accepts-result id room (got xs rest) n e = (xs, rest, refl, go (leb (length xs) room) refl _ (omega arith) e)
   where
-    go : (t : Bool) → leb (length xs) room ≡ t → numberOf (cond t (Done id (length xs)) (Refused (refuse 22 (length xs) room))) ≡ 0 → length xs ≤ room
-    go true q e = leb-true (length xs) room q
-    go false q e = absurd (omega arith)
+    go : (t : Bool) → leb (length xs) room ≡ t → (f : Refusal) → 0 < f .number → numberOf (cond t (Done id (length xs)) (Refused f)) ≡ 0 → length xs ≤ room
+    go true q f h e = leb-true (length xs) room q
+    go false q f h e = absurd (omega (arith, h))
 
 -- a result for which there is room: acceptance, the result, and behind it the old bytes
 pub record Given (id : ℕ) (out xs : List ℕ) (a : Answer) (out′ : List ℕ) : Type 0 where

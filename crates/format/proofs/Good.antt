@@ -3,7 +3,7 @@
 use mathlib.Core.Path.{_≡_, sym, ap, _∙_}
 use mathlib.Core.Bool.{Bool, true, false}
 use mathlib.Core.List.{List, [], _∷_}
-use Prim.Native.Nat.{ℕ, _+_, _*_, _-_, _%_, _^_, _<_, _≤_}
+use Prim.Native.Nat.{ℕ, _+_, _*_, _-_, _/_, _%_, _^_, _<_, _≤_}
 use native.Mathlib.Nat.{zero-sub}
 use native.Mathlib.Omega.{arith}
 use lib.Dec.{T, leb, ltb, leb→le, le→leb}
@@ -71,7 +71,7 @@ plain-below (g-slots nm a m bs {ts} _ h r) =
     let z : ℕ = 8 * wholes (length bs) - length bs in
     below-append 2 (padded bs) (plain ts) (below-append 2 bs (replicate z 0) h (zeros-below z)) (plain-below r)
 plain-below (g-plan nm {ts} _ r) =
-    below-append 2 _ (plain ts) (digits-below 2 12 _ (omega arith)) (plain-below r)
+    below-append 2 (digits 2 12 (length (plain ts) / 8)) (plain ts) (digits-below 2 12 (length (plain ts) / 8) (omega arith)) (plain-below r)
 plain-below (g-raw nm bs h _) = below-append 2 bs [] h tt
 
 -- ---- at least m bits follow
