@@ -12,7 +12,7 @@ use Rattle.format.specs.Digits.{Below}
 use Rattle.format.specs.Syntax.{Syntax, Field, Parse, got, andThen, push}
 use Rattle.format.specs.Body.{readBody, plain}
 use Rattle.format.specs.Ledger.{ledger, readLedger}
-use Rattle.format.specs.Whole.{entries, plains, ledgers, counted}
+use Rattle.format.specs.Whole.{walk, entries, plains, ledgers, counted}
 use Rattle.format.proofs.DigitLaws.{below-append}
 use Rattle.format.proofs.ParseLaws.{then-got, push-got}
 use Rattle.format.proofs.Good
@@ -62,7 +62,7 @@ module _ (n m : ℕ) (s : Syntax) (f : Good.Fine false 0 0 s) (least : Good.Leas
   -- good entries laid out are read again
   pub entries-again : (turns : ℕ) (es : List (List Field)) → AllGood s es → length (plains es) ≤ 32768 → length (plains es) ≤ n
       → length (plains es) ≤ turns → entries n m s turns (plains es) ≡ got es []
-  unfolding entries plains
+  unfolding walk plains
   entries-again zero [] g sm l h = refl
   entries-again (suc turns) [] g sm l h = rw (lt-leb m 0 pos)
   entries-again zero (ts ∷ es) g sm l h = absurd (omega (arith, Good.least m (g .0) least, length-plains ts es, h))
@@ -101,7 +101,7 @@ module _ (n m : ℕ) (s : Syntax) (f : Good.Fine false 0 0 s) (least : Good.Leas
 
   pub entries-good : n % 8 ≡ 0 → (turns : ℕ) (bs : List ℕ) (es : List (List Field)) (rest : List ℕ) → Below 2 bs → length bs % 8 ≡ 0 → length bs ≤ n
       → entries n m s turns bs ≡ got es rest → Read-entries bs es rest
-  unfolding entries
+  unfolding walk
   entries-good n8 zero bs es rest h a l e = none-good bs es rest e
   entries-good n8 (suc turns) bs es rest h a l e =
       entries-step n8 turns bs es rest (λ r us. entries-good n8 turns r us rest) h a l (leb m (length bs)) e

@@ -10,7 +10,7 @@ use Rattle.format.specs.Digits.{value, bitsOf}
 use Rattle.format.specs.Syntax.{Syntax, end, field, when, need, slots, plan, raw, Field, num, flags, len, Parse, got, refused, andThen, push}
 use Rattle.format.specs.Body.{wholes, close, readBody}
 use Rattle.format.specs.Ledger.{size, widened, grant, readLedger}
-use Rattle.format.specs.Whole.{Layout, sole, many, opaque, layout, Table, entries, readAs, bodyRead, plainOf, counted, ended, contentAs, sized, idOf, ledgerRead}
+use Rattle.format.specs.Whole.{Layout, sole, many, opaque, layout, Table, walk, entries, readAs, bodyRead, plainOf, counted, ended, contentAs, sized, idOf, ledgerRead}
 use Rattle.format.proofs.Good.{Fine}
 use Rattle.format.proofs.TableLaws.{FineLayout, fine-layout}
 
@@ -56,7 +56,7 @@ numbered-body i b c n e (plan nm k) bs f =
 numbered-body i b c n e (raw nm) bs f = accepts
 
 numbered-entries : (n m : ℕ) (s : Syntax) (turns : ℕ) (bs : List ℕ) → Fine false 0 0 s → Numbered (entries n m s turns bs)
-unfolding entries
+unfolding walk
 numbered-entries n m s zero bs f = accepts
 numbered-entries n m s (suc turns) bs f =
     numbered-cond (leb m (length bs)) _ _

@@ -10,7 +10,7 @@ use Rattle.format.specs.Syntax.{got, refused, andThen}
 use Rattle.format.specs.Tables.{position, fragment, association, beamhopping, header, position3}
 use Rattle.format.specs.Body.{readBody, plain}
 use Rattle.format.specs.Ledger.{ledger, readLedger}
-use Rattle.format.specs.Whole.{entriesOf, entries, readAs, bodyRead, plains, ledgers, plainOf, contentOf, ledgerOf, counted, contentAs, idOf, ledgerRead}
+use Rattle.format.specs.Whole.{entriesOf, walk, readAs, bodyRead, plains, ledgers, plainOf, contentOf, ledgerOf, counted, contentAs, idOf, ledgerRead}
 use Rattle.format.specs.ByName.{theInt, firstBy}
 use Rattle.format.specs.Refusals.{refuse}
 use Rattle.format.specs.Calls.{answer, left, filed, restored, writeAnswer, writeLeft, readAnswer, readLeft}
@@ -70,7 +70,7 @@ p1-to-p12 =
     []
 
 pub samples-hold : AllHold p1-to-p12
-unfolding p1-to-p12 filed bodyRead readAs entries readBody bitsOf bytesOf digits value ledgerOf contentOf plains ledgers ledger plain position fragment association beamhopping header position3 entriesOf firstBy twos
+unfolding p1-to-p12 filed bodyRead readAs walk readBody bitsOf bytesOf digits value ledgerOf contentOf plains ledgers ledger plain position fragment association beamhopping header position3 entriesOf firstBy twos
 samples-hold = (refl, (refl, (refl, (refl, (refl, (refl, (refl, (refl, (refl, (refl, (refl, (refl, tt))))))))))))
 
 -- ---- ledgers: each refusal with its place
@@ -139,5 +139,5 @@ call-samples =
     []
 
 pub call-samples-hold : AllHold call-samples
-unfolding call-samples writeAnswer writeLeft readAnswer readLeft answer left splice filed bodyRead readAs entries readBody ledgerOf contentOf plains ledgers ledger plain restored ledgerRead contentAs counted readLedger plainOf bitsOf bytesOf digits value position association
+unfolding call-samples writeAnswer writeLeft readAnswer readLeft answer left splice filed bodyRead readAs walk readBody ledgerOf contentOf plains ledgers ledger plain restored ledgerRead contentAs counted readLedger plainOf bitsOf bytesOf digits value position association
 call-samples-hold = ((refl, refl), ((refl, refl), ((refl, refl), ((refl, refl), ((refl, refl), ((refl, refl), tt))))))

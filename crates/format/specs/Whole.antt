@@ -42,12 +42,20 @@ entriesOf (asIs b) = []
 
 -- ---- reading a body
 
--- Entries while m bits remain; an entry takes bits, so as many turns as there are bits are enough.
-unfoldable pub entries : ℕ → ℕ → Syntax → ℕ → List ℕ → Parse (List (List Field))
-entries n m s zero bs = got [] bs
-entries n m s (suc turns) bs =
-    let more : Parse (List (List Field)) = andThen (readBody n 0 s bs) (λ ts rest. push ts (entries n m s turns rest)) in
+-- Entries while m bits remain, each made into something from the place at which it starts and its fields.
+-- An entry takes bits, so as many turns as there are bits are enough.
+unfoldable pub walk : {A : Type 0} → (ℕ → List Field → A) → ℕ → ℕ → Syntax → ℕ → List ℕ → Parse (List A)
+walk f n m s zero bs = got [] bs
+walk {A} f n m s (suc turns) bs =
+    let more : Parse (List A) = andThen (readBody n 0 s bs) (λ ts rest. push (f (n - length bs) ts) (walk f n m s turns rest)) in
     cond (leb m (length bs)) more (got [] bs)
+
+-- the entries' fields, and the places at which they start
+abbrev pub entries : ℕ → ℕ → Syntax → ℕ → List ℕ → Parse (List (List Field))
+entries n m s turns bs = walk (λ p ts. ts) n m s turns bs
+
+abbrev pub starts : ℕ → ℕ → Syntax → ℕ → List ℕ → Parse (List ℕ)
+starts n m s turns bs = walk (λ p ts. p) n m s turns bs
 
 -- whatever is left behind is ignored
 unfoldable pub readAs : Layout → List ℕ → Parse Table
@@ -61,6 +69,17 @@ readAs opaque b = got (asIs b) []
 unfoldable pub bodyRead : ℕ → List ℕ → Parse Table
 bodyRead id b =
     let more : Parse Table = readAs (layout id) b in
+    cond (leb (length b) 4096) more (refused 21 (length b) 4096)
+
+-- the places at which the entries of a body start; a body that is no list is one entry
+unfoldable pub startsAs : Layout → List ℕ → Parse (List ℕ)
+startsAs (sole s) b = andThen (readBody (8 * length b) 0 s (bitsOf b)) (λ ts rest. got (0 ∷ []) [])
+startsAs (many h m s) b = andThen (readBody (8 * length b) 0 h (bitsOf b)) (λ hs rest. starts (8 * length b) m s (length rest) rest)
+startsAs opaque b = got (0 ∷ []) []
+
+unfoldable pub bodyStarts : ℕ → List ℕ → Parse (List ℕ)
+bodyStarts id b =
+    let more : Parse (List ℕ) = startsAs (layout id) b in
     cond (leb (length b) 4096) more (refused 21 (length b) 4096)
 
 -- "accepted": a byte and bytes whose reading meets no refusal, and the fields that it gives
