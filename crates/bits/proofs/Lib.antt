@@ -6,3 +6,4 @@ pub mod Patches
 pub mod Tests
 pub mod Answers
 pub mod Signs
+pub mod Reading

@@ -9,3 +9,6 @@ pub mod TableLaws
 pub mod NumberLaws
 pub mod Demand
 pub mod CallLaws
+pub mod ReadLaws
+pub mod GroupLaws
+pub mod ListLaws

@@ -1,12 +1,13 @@
--- A field's value by the field's name.
+-- A field's value and place by the field's name.
 -- Assumes nothing: these are definitions.
-use Prim.Native.Nat.{ℕ, _+_}
+use Prim.Native.Nat.{ℕ, _+_, _*_}
 use mathlib.Core.Bool.{cond}
 use mathlib.Core.List.{List, [], _∷_}
 use lib.IntN.{ℤ, pos}
 use lib.ListN.{length}
 use lib.Text.{eqt}
 use Rattle.format.specs.Digits.{twos}
+use Rattle.format.specs.Body.{wholes}
 use Rattle.format.specs.Syntax.{Name, unsigned, signed, Field, num, flags, bytes, len}
 
 abbrev pub name : Field → Name
@@ -54,3 +55,21 @@ theInt nm ts = firstBy integerIn (pos 0) nm ts
 
 abbrev pub slotsOn : Name → List Field → ℕ
 slotsOn nm ts = firstBy slotsOnIn 0 nm ts
+
+-- ---- places, for fields that start at the bit place p
+
+-- the bits that a field takes in a body
+abbrev pub bitsIn : Field → ℕ
+bitsIn (num g nm w v) = w
+bitsIn (flags nm bs) = 8 * wholes (length bs)
+bitsIn (bytes nm bs) = length bs
+bitsIn (len nm) = 12
+
+-- the place of the first field of a name, and the place behind it
+unfoldable pub from : Name → ℕ → List Field → ℕ
+from nm p [] = p
+from nm p (t ∷ ts) = cond (eqt nm (name t)) p (from nm (p + bitsIn t) ts)
+
+unfoldable pub behind : Name → ℕ → List Field → ℕ
+behind nm p [] = p
+behind nm p (t ∷ ts) = cond (eqt nm (name t)) (p + bitsIn t) (behind nm (p + bitsIn t) ts)
