@@ -12,3 +12,4 @@ pub mod CallLaws
 pub mod ReadLaws
 pub mod GroupLaws
 pub mod ListLaws
+pub mod StartLaws
