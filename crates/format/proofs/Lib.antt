@@ -13,3 +13,4 @@ pub mod ReadLaws
 pub mod GroupLaws
 pub mod ListLaws
 pub mod StartLaws
+pub mod AgreeLaws

@@ -1,7 +1,7 @@
 -- Going from entry to entry by places, as code does: what a turn finds, where entries can start, and what a whole walk gives.
 -- Assumes nothing.
 use mathlib.Core.Path.{_≡_, refl, sym, ap, _∙_}
-use mathlib.Core.Bool.{Bool, true, false, cond}
+use mathlib.Core.Bool.{Bool, true, false}
 use mathlib.Core.List.{List, [], _∷_, _++_, append-assoc, append-nil}
 use Prim.Native.Nat.{ℕ, zero, suc, _+_, _*_, _-_, _%_, _<_, _≤_}
 use native.Mathlib.Omega.{arith}
@@ -75,13 +75,13 @@ module _ (m : ℕ) (s : Syntax) (f : Good.Fine false 0 0 s) (least : Good.Least 
   n = 8 * length b
 
   -- an entry ends further on, within the body, at a byte, and what is left stands there
-  record Ended (p q : ℕ) (rest : List ℕ) : Type 0 where
+  pub record Ended (p q : ℕ) (rest : List ℕ) : Type 0 where
     pub on : p + m ≤ q
     pub within : q ≤ n
     pub byte : q % 8 ≡ 0
     pub left : rest ≡ drop q (bitsOf b)
 
-  ended : (p : ℕ) (ts : List Field) (rest : List ℕ) → p ≤ n → p % 8 ≡ 0 → readBody n 0 s (drop p (bitsOf b)) ≡ got ts rest → Ended p (n - length rest) rest
+  pub ended : (p : ℕ) (ts : List Field) (rest : List ℕ) → p ≤ n → p % 8 ≡ 0 → readBody n 0 s (drop p (bitsOf b)) ≡ got ts rest → Ended p (n - length rest) rest
   ended p ts rest h a e =
       let ld : length (drop p (bitsOf b)) ≡ n - p = rest-at b p in
       let y : Read false s (drop p (bitsOf b)) ts rest =
