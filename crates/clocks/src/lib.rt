@@ -1,0 +1,98 @@
+// A clock: 48 bits, of which 33 are its base and 9 its extension. A stamp: 56 bits, a year, a day and a part of a day.
+ghost use mathlib.Core.Path.{_≡_};
+ghost use Rattle.bits.specs.Read.{Place, Room};
+ghost use Rattle.clocks.specs.Clocks.{clockAt, clockOf, stampOf, refusalOf};
+use bits::Bits;
+use bits::read_u;
+use bits::refusal_of;
+use bits::value_at;
+use format::Refusal;
+
+pub struct Clock {
+    pub base: u64,
+    pub reserved: u8,
+    pub ext: u16,
+}
+
+pub struct Stamp {
+    pub year: u8,
+    pub reserved: u8,
+    pub day: u16,
+    pub fraction: u32,
+}
+
+// What reading a clock at a place finds: the clock and the place behind it, or why it is refused.
+pub enum ClockAnswer {
+    Read { clock: Clock, next: usize },
+    Refused(Refusal),
+}
+
+// The refusal in an answer; zeros where the answer is a clock.
+pub fn clock_refusal(r: ClockAnswer) -> Refusal
+    ensures { λ f. ⌜ f ≡ refusalOf r ⌝ }
+{
+    match r {
+        ClockAnswer::Read { clock: _, next: _ } => Refusal {
+            number: 0,
+            need: 0,
+            have: 0,
+        },
+        ClockAnswer::Refused(f) => f,
+    }
+}
+
+// Reads a clock; refused with number 1 at the first of its fields that goes on behind the end.
+pub fn read_clock(s: &[u8], at: usize) -> ClockAnswer
+    requires { ⌜ Place (now s) at ⌝ }
+    ensures { λ r. ⌜ r ≡ clockAt (now (s .entry)) at ⌝ }
+{
+    let r = read_u(s, at, 33);
+    let Bits::Value { value: base, next } = r else {
+        return ClockAnswer::Refused(refusal_of(r));
+    };
+    let r = read_u(s, next, 6);
+    let Bits::Value {
+        value: reserved,
+        next,
+    } = r
+    else {
+        return ClockAnswer::Refused(refusal_of(r));
+    };
+    let r = read_u(s, next, 9);
+    let Bits::Value { value: ext, next } = r else {
+        return ClockAnswer::Refused(refusal_of(r));
+    };
+    ClockAnswer::Read {
+        clock: Clock {
+            base,
+            reserved: reserved as u8,
+            ext: ext as u16,
+        },
+        next,
+    }
+}
+
+// The clock at a place where all of it is there.
+pub fn clock_at(s: &[u8], at: usize) -> Clock
+    requires { ⌜ Room (now s) at 48 ⌝ }
+    ensures { λ r. ⌜ r ≡ clockOf (now (s .entry)) at ⌝ }
+{
+    Clock {
+        base: value_at(s, at, 33),
+        reserved: value_at(s, at + 33, 6) as u8,
+        ext: value_at(s, at + 39, 9) as u16,
+    }
+}
+
+// The stamp at a place where all of it is there.
+pub fn stamp_at(s: &[u8], at: usize) -> Stamp
+    requires { ⌜ Room (now s) at 56 ⌝ }
+    ensures { λ r. ⌜ r ≡ stampOf (now (s .entry)) at ⌝ }
+{
+    Stamp {
+        year: value_at(s, at, 8) as u8,
+        reserved: value_at(s, at + 8, 7) as u8,
+        day: value_at(s, at + 15, 9) as u16,
+        fraction: value_at(s, at + 24, 32) as u32,
+    }
+}
