@@ -134,7 +134,8 @@ pub record Listed (b : List ℕ) (w p : ℕ) (pt : Part) (q : ℕ) : Type 0 wher
   pub next : q ≡ p + 10 + pt .count * w
   pub within : q ≤ 8 * length b
 
-pub listed : (b : List ℕ) (p a : ℕ) (ls : List Line) {pt : Part} {q : ℕ} {r : PartAnswer} → Place b p → r ≡ partAt b a (ends 0 ls) p → r ≡ Read pt q → Listed b (ends 0 ls) p pt q
+pub listed : (b : List ℕ) (p a : ℕ) (ls : List Line) {pt : Part} {q : ℕ} {r : PartAnswer} → Place b p → r ≡ partAt b a (ends 0 ls) p
+    → r ≡ Read pt q → Listed b (ends 0 ls) p pt q
 unfolding There Cut
 listed b p a ls {pt} {q} {r} l h m = go (cases b 0 p "count" a ls end (λ ts k. k) (λ f. 0) l)
   where

@@ -8,6 +8,8 @@ use native.Mathlib.Numerals.{one-add}
 use native.Mathlib.Omega.{arith}
 use lib.Count.{ones-cat, ones-le}
 use lib.Count as count
+use mir.Syntax.{w32}
+use mir.Val.{Fits}
 use lib.ListN.{length, take, drop, getD}
 use lib.Pow.{mod-pow-add, pow-pos, shr-mod}
 use lib.Seq.{take-add, drop-drop, drop-cons, take-append-le}
@@ -49,6 +51,10 @@ ones-byte s q n h r =
 
 ones-more : (s : List ℕ) (at k n : ℕ) → ones (take (k + n) (drop at (bitsOf s))) ≡ ones (take k (drop at (bitsOf s))) + ones (take n (drop (at + k) (bitsOf s)))
 ones-more s at k n = rw (take-add k n (drop at (bitsOf s)), ones-append, drop-drop k at (bitsOf s))
+
+-- a byte's set bits, shifted or not, are few enough for the sum
+pub sum-fits : (on x k : ℕ) → on ≤ 32768 → x < 256 → Fits w32 (on + count.ones (x / 2 ^ k))
+sum-fits on x k m b = record { fits = omega (arith, ones-le 8 (x / 2 ^ k) (lt-of-le-of-lt (div-le-self x (2 ^ k)) b)) }
 
 -- one turn of `slots_on`: n bits of the byte i behind start, the others shifted out
 pub record Turn (s : List ℕ) (start i n : ℕ) : Type 0 where

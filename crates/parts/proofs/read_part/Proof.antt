@@ -1,6 +1,5 @@
 -- `read_part` meets its contract, by the case of the count and the test of what it counts.
 -- Assumes nothing.
-use Prim.Native.Nat.{_*_, _≤_}
 use native.Mathlib.Omega.{arith}
 use native.Mathlib.Nat.{mul-le-mul-left}
 use Rattle.format.specs.ByName.{firstBy}

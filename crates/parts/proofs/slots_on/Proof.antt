@@ -1,14 +1,14 @@
 -- `slots_on` meets its contract: each turn of its loop counts one more byte, and the last step the bits left over.
 -- Assumes nothing.
-use Prim.Native.Nat.{ℕ, _+_, _-_, _*_, _/_, _%_, _^_, _≤_, _<_}
-use mathlib.Core.Path.{_≡_, refl, sym, ap, _∙_}
+use Prim.Native.Nat.{_+_, _-_, _*_, _/_, _%_, _≤_}
+use mathlib.Core.Path.{_≡_, refl}
+use native.Mathlib.Nat.{div-one}
 use native.Mathlib.Omega.{arith}
-use lib.ListN.{length, take, drop, getD}
+use lib.ListN.{take, drop, getD}
 use denote.Ref.{now}
 use Rattle.format.specs.Digits.{bitsOf}
 use Rattle.format.specs.ByName.{ones}
-use Rattle.parts.proofs.Ones.{turn}
-use native.Mathlib.Nat.{div-one}
+use Rattle.parts.proofs.Ones.{sum-fits, turn}
 use Rattle.parts.proofs.slots_on.Statement.{statement}
 use Rattle.parts.proofs.slots_on.Tie as tie
 
@@ -80,11 +80,7 @@ shr-result c = omega arith
 add-result-2 : tie.Need-add-result-2 Inv-loop μ-loop
 add-result-2 c =
     let a = c .before .before .before .before .args in
-    let l = c .before .before .before .loop in
-    let s = now (a .s) in
-    let b = c .shared-slice-known2 .given (a .start + a .size / 8) in
-    let t = turn s (a .start) (a .size / 8) (a .size % 8) (omega arith) (omega arith) (omega (arith, b)) in
-    record { fits = omega (arith, t .few) }
+    sum-fits _ _ _ (omega arith) (omega (arith, c .shared-slice-known2 .given (a .start + a .size / 8)))
 
 returns-2 : tie.Need-returns-2 Inv-loop μ-loop
 returns-2 c =

@@ -1,0 +1,224 @@
+// Going through the entries of a body, whatever its table: how many there are, and where one of them starts.
+ghost use mathlib.Core.Path.{_≡_};
+ghost use Prim.Native.Nat.{ℕ, _-_, _*_, _%_, _≤_};
+ghost use lib.ListN.{length, drop};
+ghost use Rattle.format.specs.Digits.{bitsOf};
+ghost use Rattle.format.specs.Tables.{position, fragment, beamhopping, position3};
+ghost use Rattle.format.specs.Whole.{layout, starts, bodyStarts};
+ghost use Rattle.format.specs.At.{endOf, seek};
+ghost use Rattle.bits.specs.Read.{Place};
+ghost use Rattle.entries.specs.Entries.{entrySyntax, leastBits, headSyntax, IsList, endRefusal, walkRefusal, Sure};
+ghost use Rattle.entries.specs.declared.Walked.the-variants as walked;
+use association::TimeAssociationAnswer;
+use association::read_association;
+use format::EntryEnd;
+use format::Refusal;
+use fragment::CellFragmentAnswer;
+use fragment::read_fragment;
+use plan::BeamhoppingAnswer;
+use plan::read_plan;
+use position::PositionV2Answer;
+use position::read_satellite;
+use position_v3::HeaderAnswer;
+use position_v3::PositionV3Answer;
+use position_v3::read_header;
+use position_v3::read_satellite_v3;
+
+// How many entries there are, and the bit place at which the one at an index starts (0 where there is none).
+pub enum Walked {
+    Entries { count: usize, place: usize },
+    Refused(Refusal),
+}
+
+// Where the entry at a place ends: one function for each table that is a list.
+fn satellite_end(s: &[u8], at: usize) -> EntryEnd
+    requires { ⌜ Place (now s) at ⌝ }
+    ensures { λ r. ⌜ r ≡ endOf (now (s .entry)) position at ⌝ }
+{
+    let r = read_satellite(s, at);
+    match r {
+        PositionV2Answer::Entry { satellite: _, next } => EntryEnd::At(next),
+        PositionV2Answer::Refused(f) => EntryEnd::Refused(f),
+    }
+}
+
+fn fragment_end(s: &[u8], at: usize) -> EntryEnd
+    requires { ⌜ Place (now s) at ⌝ }
+    ensures { λ r. ⌜ r ≡ endOf (now (s .entry)) fragment at ⌝ }
+{
+    let r = read_fragment(s, at);
+    match r {
+        CellFragmentAnswer::Entry { fragment: _, next } => EntryEnd::At(next),
+        CellFragmentAnswer::Refused(f) => EntryEnd::Refused(f),
+    }
+}
+
+fn plan_end(s: &[u8], at: usize) -> EntryEnd
+    requires { ⌜ Place (now s) at × (at % 8 ≡ 0) ⌝ }
+    ensures { λ r. ⌜ r ≡ endOf (now (s .entry)) beamhopping at ⌝ }
+{
+    let r = read_plan(s, at);
+    match r {
+        BeamhoppingAnswer::Entry { plan: _, next } => EntryEnd::At(next),
+        BeamhoppingAnswer::Refused(f) => EntryEnd::Refused(f),
+    }
+}
+
+fn satellite_v3_end(s: &[u8], at: usize) -> EntryEnd
+    requires { ⌜ Place (now s) at × (at % 8 ≡ 0) ⌝ }
+    ensures { λ r. ⌜ r ≡ endOf (now (s .entry)) position3 at ⌝ }
+{
+    let v = read_satellite_v3(s, at);
+    let r = v.answer;
+    match r {
+        PositionV3Answer::Entry { satellite: _, next } => EntryEnd::At(next),
+        PositionV3Answer::Refused(f) => EntryEnd::Refused(f),
+    }
+}
+
+// Where the entry of a list at a place ends.
+fn entry_end(table_id: u8, s: &[u8], at: usize) -> EntryEnd
+    requires { ⌜ Place (now s) at × (at % 8 ≡ 0) ⌝ }
+    requires { ⌜ IsList (layout «table_id») ⌝ }
+    ensures { λ r. ⌜ r ≡ endOf (now (s .entry)) (entrySyntax «table_id») at ⌝ }
+{
+    if table_id == 0 {
+        return satellite_end(s, at);
+    }
+    if table_id == 1 {
+        return fragment_end(s, at);
+    }
+    if table_id == 3 {
+        return plan_end(s, at);
+    }
+    satellite_v3_end(s, at)
+}
+
+// The bits that must remain for there to be an entry.
+fn least_bits(table_id: u8) -> usize
+    requires { ⌜ IsList (layout «table_id») ⌝ }
+    ensures { λ r. ⌜ r ≡ leastBits «table_id» ⌝ }
+{
+    if table_id == 1 {
+        return 34;
+    }
+    if table_id == 3 {
+        return 48;
+    }
+    32
+}
+
+// Where the entries of a list start: behind the header under id 4.
+fn head_end(table_id: u8, s: &[u8]) -> EntryEnd
+    requires { ⌜ length (now s) ≤ 4096 ⌝ }
+    requires { ⌜ IsList (layout «table_id») ⌝ }
+    ensures { λ r. ⌜ r ≡ endOf (now (s .entry)) (headSyntax «table_id») 0 ⌝ }
+{
+    if table_id == 4 {
+        let r = read_header(s);
+        match r {
+            HeaderAnswer::Header { header: _, next } => return EntryEnd::At(next),
+            HeaderAnswer::Refused(f) => return EntryEnd::Refused(f),
+        }
+    }
+    EntryEnd::At(0)
+}
+
+// The refusal in an answer; zeros where there is none.
+fn end_refusal(r: EntryEnd) -> Refusal
+    ensures { λ f. ⌜ f ≡ endRefusal r ⌝ }
+{
+    match r {
+        EntryEnd::At(_) => Refusal {
+            number: 0,
+            need: 0,
+            have: 0,
+        },
+        EntryEnd::Refused(f) => f,
+    }
+}
+
+// The entries of a list from a place on.
+fn seek_entries(table_id: u8, s: &[u8], start: usize, index: usize) -> Walked
+    requires { ⌜ (length (now s) ≤ 4096) × (start ≤ 8 * length (now s)) × (start % 8 ≡ 0) ⌝ }
+    requires { ⌜ IsList (layout «table_id») ⌝ }
+    ensures { λ r. ⌜ r ≡ seek index walked.Entries walked.Refused (starts (8 * length (now (s .entry))) (leastBits «table_id») (entrySyntax «table_id») (8 * length (now (s .entry)) - start) (drop start (bitsOf (now (s .entry))))) ⌝ }
+    ensures { λ r. ⌜ Sure (now (s .entry)) r ⌝ }
+{
+    let all = 8 * s.len();
+    let least = least_bits(table_id);
+    let mut at = start;
+    let mut count: usize = 0;
+    let mut place: usize = 0;
+    while least <= all - at {
+        let end = entry_end(table_id, s, at);
+        let EntryEnd::At(next) = end else {
+            return Walked::Refused(end_refusal(end));
+        };
+        if count == index {
+            place = at;
+        }
+        at = next;
+        count += 1;
+    }
+    Walked::Entries { count, place }
+}
+
+// The one entry of a body that is no list.
+fn sole_entry(table_id: u8, s: &[u8]) -> Walked
+    requires { ⌜ length (now s) ≤ 4096 ⌝ }
+    requires { ⌜ (IsList (layout «table_id») → ⊥) ⌝ }
+    ensures { λ r. ⌜ ((i : ℕ) → r ≡ seek i walked.Entries walked.Refused (bodyStarts «table_id» (now (s .entry)))) ⌝ }
+    ensures { λ r. ⌜ Sure (now (s .entry)) r ⌝ }
+{
+    if table_id == 2 {
+        let r = read_association(s);
+        match r {
+            TimeAssociationAnswer::Entry {
+                association: _,
+                next: _,
+            } => return Walked::Entries { count: 1, place: 0 },
+            TimeAssociationAnswer::Refused(f) => return Walked::Refused(f),
+        }
+    }
+    Walked::Entries { count: 1, place: 0 }
+}
+
+// The entries of a body: their number, and the place of the one at an index; or the body's refusal.
+pub fn walk_body(table_id: u8, s: &[u8], index: usize) -> Walked
+    ensures { λ r. ⌜ r ≡ seek index walked.Entries walked.Refused (bodyStarts «table_id» (now (s .entry))) ⌝ }
+    ensures { λ r. ⌜ Sure (now (s .entry)) r ⌝ }
+{
+    if 4096 < s.len() {
+        return Walked::Refused(Refusal {
+            number: 21,
+            need: s.len(),
+            have: 4096,
+        });
+    }
+    if table_id == 2 {
+        return sole_entry(table_id, s);
+    }
+    if 4 < table_id {
+        return sole_entry(table_id, s);
+    }
+    let head = head_end(table_id, s);
+    let EntryEnd::At(start) = head else {
+        return Walked::Refused(end_refusal(head));
+    };
+    seek_entries(table_id, s, start, index)
+}
+
+// The refusal in an answer; zeros where there is none.
+pub fn walk_refusal(r: Walked) -> Refusal
+    ensures { λ f. ⌜ f ≡ walkRefusal r ⌝ }
+{
+    match r {
+        Walked::Entries { count: _, place: _ } => Refusal {
+            number: 0,
+            need: 0,
+            have: 0,
+        },
+        Walked::Refused(f) => f,
+    }
+}

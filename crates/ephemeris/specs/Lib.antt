@@ -1,0 +1,2 @@
+pub mod Ephemeris
+pub mod Entry

@@ -1,0 +1,3 @@
+pub mod Interpolation
+pub mod Times
+pub mod Blocks
