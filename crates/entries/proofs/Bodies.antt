@@ -25,7 +25,7 @@ use Rattle.entries.specs.Entries.{IsList, entrySyntax, leastBits, headSy
 
 -- ---- what stands before the entries
 
-least-header : Good.Least 64 header
+pub least-header : Good.Least 64 header
 unfolding header
 least-header = omega arith
 

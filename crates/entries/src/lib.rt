@@ -77,7 +77,7 @@ fn satellite_v3_end(s: &[u8], at: usize) -> EntryEnd
 }
 
 // Where the entry of a list at a place ends.
-fn entry_end(table_id: u8, s: &[u8], at: usize) -> EntryEnd
+pub fn entry_end(table_id: u8, s: &[u8], at: usize) -> EntryEnd
     requires { ⌜ Place (now s) at × (at % 8 ≡ 0) ⌝ }
     requires { ⌜ IsList (layout «table_id») ⌝ }
     ensures { λ r. ⌜ r ≡ endOf (now (s .entry)) (entrySyntax «table_id») at ⌝ }
@@ -95,7 +95,7 @@ fn entry_end(table_id: u8, s: &[u8], at: usize) -> EntryEnd
 }
 
 // The bits that must remain for there to be an entry.
-fn least_bits(table_id: u8) -> usize
+pub fn least_bits(table_id: u8) -> usize
     requires { ⌜ IsList (layout «table_id») ⌝ }
     ensures { λ r. ⌜ r ≡ leastBits «table_id» ⌝ }
 {
@@ -109,7 +109,7 @@ fn least_bits(table_id: u8) -> usize
 }
 
 // Where the entries of a list start: behind the header under id 4.
-fn head_end(table_id: u8, s: &[u8]) -> EntryEnd
+pub fn head_end(table_id: u8, s: &[u8]) -> EntryEnd
     requires { ⌜ length (now s) ≤ 4096 ⌝ }
     requires { ⌜ IsList (layout «table_id») ⌝ }
     ensures { λ r. ⌜ r ≡ endOf (now (s .entry)) (headSyntax «table_id») 0 ⌝ }
@@ -125,7 +125,7 @@ fn head_end(table_id: u8, s: &[u8]) -> EntryEnd
 }
 
 // The refusal in an answer; zeros where there is none.
-fn end_refusal(r: EntryEnd) -> Refusal
+pub fn end_refusal(r: EntryEnd) -> Refusal
     ensures { λ f. ⌜ f ≡ endRefusal r ⌝ }
 {
     match r {
