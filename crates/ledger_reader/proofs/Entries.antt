@@ -1,0 +1,145 @@
+-- Entries of a ledger laid one after the other: the turns of `read_entries`, and the count in front of them.
+-- Assumes nothing.
+use Prim.Native.Nat.{ℕ, suc, _+_, _-_, _*_, _≤_, _<_}
+use mathlib.Core.Path.{_≡_, refl, sym, ap, _∙_, subst}
+use mathlib.Core.List.{List, [], _∷_, _++_, append-assoc, append-nil}
+use native.Mathlib.Nat.{sub-zero}
+use native.Mathlib.Omega.{arith}
+use lib.ListN.{length, take, drop, length-append, length-drop}
+use lib.Seq.{drop-drop}
+use borrow.Author.Tests.{le-leb, lt-leb}
+use Rattle.format.specs.Digits.{value, bitsOf, splice}
+use Rattle.format.specs.Refusals.{refuse}
+use Rattle.format.specs.Syntax.{Syntax, Field, Parse, got, refused, andThen, push}
+use Rattle.format.specs.Body.{plain}
+use Rattle.format.specs.Ledger.{readLedger}
+use Rattle.format.specs.Whole.{plains, counted}
+use Rattle.format.specs.declared.Refusal.{Refusal}
+use Rattle.format.proofs.DigitLaws.{length-bits}
+use Rattle.bits.proofs.Splices.{splice-splice, splice-nil}
+use Rattle.runs.specs.declared.Step.{Step}
+use Rattle.runs.specs.declared.Step.the-variants.{Done, Refused}
+use Rattle.read_runs.specs.Came.{LedgerPlaced, Halted}
+use Rattle.read_plans.specs.Taken.{Took, TakenTo, Taken}
+use Rattle.ledger_reader.specs.Held.{listing, Held, Refuses, HoldsTo, Holds}
+
+-- ---- what is known of an answer
+
+module _ {l out out′ : List ℕ} {s : Syntax} {place at : ℕ} {r : Step} where
+  pub took : {a p v : ℕ} → r ≡ Done a p v → Taken l s place at out out′ r → Took l s place at out p a out′
+  took q x = subst (λ (r : Step). TakenTo l s place at out out′ r) q (x .to)
+
+  pub untaken : {f : Refusal} → r ≡ Refused f → Taken l s place at out out′ r → Halted l s place f
+  untaken q x = subst (λ (r : Step). TakenTo l s place at out out′ r) q (x .to)
+
+module _ {A : Type 0} {f : A → List ℕ} {l : List ℕ} {p : Parse A} {at : ℕ} {out out′ : List ℕ} {r : Step} where
+  pub held : {a q v : ℕ} → r ≡ Done a q v → Holds f l p at out out′ r → Held f l p at out q a out′
+  held e x = subst (λ (r : Step). HoldsTo f l p at out out′ r) e (x .to)
+
+  pub unheld : {g : Refusal} → r ≡ Refused g → Holds f l p at out out′ r → Refuses p g
+  unheld e x = subst (λ (r : Step). HoldsTo f l p at out out′ r) e (x .to)
+
+  pub holds-no : {g : Refusal} → r ≡ Refused g → Refuses p g → Holds f l p at out out′ r
+  holds-no e x = subst (λ (r : Step). Holds f l p at out out′ r) (sym e) (record { to = x })
+
+  -- the same reading in other words
+  pub holds-as : {p₁ : Parse A} → p ≡ p₁ → Holds f l p₁ at out out′ r → Holds f l p at out out′ r
+  holds-as e x = subst (λ (p : Parse A). Holds f l p at out out′ r) (sym e) x
+
+-- ---- entries
+
+plains-more : (es : List (List Field)) (ts : List Field) → plains (es ++ (ts ∷ [])) ≡ plains es ++ plain ts
+unfolding plains
+plains-more [] ts = append-nil (plain ts)
+plains-more (us ∷ es) ts = rw (plains-more es ts) (sym (append-assoc (plain us) (plains es) (plain ts)))
+
+plains-nil : plains [] ≡ []
+unfolding plains
+plains-nil = refl
+
+-- entries in front of those that a reading gives
+abbrev behind : List (List Field) → Parse (List (List Field)) → Parse (List (List Field))
+behind es p = andThen p (λ us rest. got (es ++ us) rest)
+
+behind-none : (p : Parse (List (List Field))) → p ≡ behind [] p
+behind-none (got us rest) = refl
+behind-none (refused x y z) = refl
+
+behind-more : (es : List (List Field)) (ts : List Field) (p : Parse (List (List Field))) → behind es (push ts p) ≡ behind (es ++ (ts ∷ [])) p
+behind-more es ts (got us rest) = ap (λ (x : List (List Field)). got x rest) (sym (append-assoc es (ts ∷ []) us))
+behind-more es ts (refused x y z) = refl
+
+counted-next : (n c : ℕ) (s : Syntax) (bs : List ℕ) → counted n s (suc c) bs ≡ andThen (readLedger n s bs) (λ ts rest. push ts (counted n s c rest))
+unfolding counted
+counted-next n c s bs = refl
+
+counted-none : (n : ℕ) (s : Syntax) (bs : List ℕ) → counted n s 0 bs ≡ got [] bs
+unfolding counted
+counted-none n s bs = refl
+
+-- where the entries stand: es are laid, and count - i are left
+pub record Counting (l : List ℕ) (s : Syntax) (place count at : ℕ) (out₀ : List ℕ) (there here i : ℕ) (out : List ℕ) : Type 0 where
+  pub es : List (List Field)
+  pub walked : counted (length l) s count (drop place l) ≡ behind es (counted (length l) s (count - i) (drop there l))
+  pub size : here ≡ at + length (plains es)
+  pub bits : here ≤ 8 * length out₀ → bitsOf out ≡ splice (bitsOf out₀) at (plains es)
+  pub long : length out ≡ length out₀
+  pub placed : LedgerPlaced l there (here + 8)
+
+pub begin : {l out : List ℕ} {s : Syntax} {place at : ℕ} (count : ℕ) → LedgerPlaced l place (at + 8) → Counting l s place count at out place at 0 out
+begin {l} {out} {s} {place} {at} count p =
+    record {
+      es = [];
+      walked = rw (sub-zero count) (behind-none (counted (length l) s count (drop place l)));
+      size = omega (arith, ap length plains-nil);
+      bits = λ _. sym (rw plains-nil (splice-nil (bitsOf out) at));
+      long = refl;
+      placed = p;
+    }
+
+module _ {l out₀ out : List ℕ} {s : Syntax} {place count at there here i : ℕ} (st : Counting l s place count at out₀ there here i out) where
+  one-more : i < count → count - i ≡ suc (count - (i + 1))
+  one-more h = omega arith
+
+  pub turn : {out′ : List ℕ} {a p : ℕ} → i < count → Took l s there here out p a out′ → Counting l s place count at out₀ p a (i + 1) out′
+  turn {out′} {a} {p} h w =
+      let es = st .es in
+      let n = ap length (plains-more es (w .ts)) ∙ length-append (plains es) (plain (w .ts)) in
+      let z = w .size in
+      let z′ = st .size in
+      record {
+        es = es ++ (w .ts ∷ []);
+        walked = st .walked ∙ rw (one-more h, counted-next (length l) (count - (i + 1)) s (drop there l), w .reads) (behind-more es (w .ts) (counted (length l) s (count - (i + 1)) (drop p l)));
+        size = omega arith;
+        bits = λ r. w .bits (omega (arith, st .long)) ∙ ap (λ (m : List ℕ). splice m here (plain (w .ts))) (st .bits (omega arith))
+            ∙ splice-splice (bitsOf out₀) at (plains es) (plain (w .ts)) here (st .size) (omega (arith, length-bits out₀)) ∙ ap (splice (bitsOf out₀) at) (sym (plains-more es (w .ts)));
+        long = w .long ∙ st .long;
+        placed = record { short = st .placed .short; within = w .within; behind = omega (arith, st .placed .behind, w .slack) };
+      }
+
+  pub stop : {f : Refusal} → i < count → Halted l s there f → Refuses (counted (length l) s count (drop place l)) f
+  stop {f} h w =
+      record { reads = st .walked ∙ rw (one-more h, counted-next (length l) (count - (i + 1)) s (drop there l), w .reads) }
+
+  pub ended : count ≤ i → Held plains l (counted (length l) s count (drop place l)) at out₀ there here out
+  ended h =
+      let e : count - i ≡ 0 = omega arith in
+      record {
+        what = st .es;
+        reads = st .walked ∙ rw (e, counted-none (length l) s (drop there l), append-nil (st .es));
+        size = st .size;
+        bits = st .bits;
+        within = st .placed .within;
+      }
+
+-- ---- the count in front of them
+
+module _ (l : List ℕ) (s : Syntax) (place : ℕ) where
+  pub count-short : place ≤ length l → length l - place < 2 → Refuses (listing (length l) s (drop place l)) (refuse 23 place 0)
+  count-short h m =
+      let e : length l - length (drop place l) ≡ place = omega (arith, length-drop place l) in
+      record { reads = rw (lt-leb 2 (length (drop place l)) (omega (arith, length-drop place l)), e) }
+
+  pub count-there : {count : ℕ} → 2 ≤ length l - place → count ≡ value 256 (take 2 (drop place l))
+      → listing (length l) s (drop place l) ≡ counted (length l) s count (drop (place + 2) l)
+  count-there m e = rw (le-leb 2 (length (drop place l)) (omega (arith, length-drop place l)), drop-drop 2 place l, e)

@@ -1,0 +1,5 @@
+pub mod Entries
+pub mod Copying
+pub mod Fields
+pub mod Measuring
+pub mod Reading

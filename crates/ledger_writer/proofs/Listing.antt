@@ -1,0 +1,189 @@
+-- The entries of a body, one after another, as the loop over them writes them.
+-- Assumes nothing.
+use Prim.Native.Nat.{ℕ, zero, suc, _+_, _-_, _*_, _%_, _≤_, _<_}
+use mathlib.Core.Path.{_≡_, refl, sym, ap, _∙_, subst}
+use mathlib.Core.Bool.{Bool, true, false, cond}
+use mathlib.Core.List.{List, [], _∷_, _++_, append-assoc, append-nil}
+use native.Mathlib.Omega.{arith}
+use lib.Dec.{eqb}
+use lib.ListN.{length, drop, length-append}
+use borrow.Author.Tests.{le-leb, lt-leb}
+use Rattle.format.specs.Digits.{digits, bitsOf, splice}
+use Rattle.format.specs.Syntax.{Syntax, end, Field, Parse, got, refused, andThen, push}
+use Rattle.format.specs.Tables.{position, fragment, beamhopping, position3}
+use Rattle.format.specs.Body.{readBody}
+use Rattle.format.specs.Ledger.{ledger}
+use Rattle.format.specs.Whole.{walk, ledgers}
+use Rattle.format.specs.declared.Refusal.{Refusal}
+use Rattle.format.proofs.DigitLaws.{length-digits}
+use Rattle.format.proofs.Good
+use Rattle.format.proofs.FineTables.{fine-position, least-position, fine-fragment, least-fragment, fine-beamhopping, least-beamhopping, fine-position3, least-position3}
+use Rattle.format.proofs.ReadLaws.{rest-at, place-at}
+use Rattle.format.proofs.StartLaws as start-laws
+use Rattle.bits.proofs.Splices.{splice-splice, splice-nil}
+use Rattle.runs.specs.declared.Step.{Step}
+use Rattle.runs.specs.declared.Step.the-variants.{Refused}
+use Rattle.write_runs.specs.Went.{Went, Stopped, Placed}
+use Rattle.write_runs.proofs.WentLaws.{pushes-got}
+use Rattle.ledger_writer.specs.Listed.{entryOf, leastOf, entriesIn, entriesAt, Wrote, Faulty, Listed}
+use Rattle.ledger_writer.proofs.Stores.{splice-front}
+
+-- ---- the tables that have entries
+
+fine-of : (id : ℕ) → Good.Fine false 0 0 (entryOf id)
+fine-of id = go (eqb id 0) (eqb id 1) (eqb id 3)
+  where
+    go : (x y z : Bool) → Good.Fine false 0 0 (cond x position (cond y fragment (cond z beamhopping position3)))
+    go true y z = fine-position
+    go false true z = fine-fragment
+    go false false true = fine-beamhopping
+    go false false false = fine-position3
+
+least-is : (id : ℕ) → Good.Least (leastOf id) (entryOf id) × (8 ≤ leastOf id)
+least-is id = go (eqb id 0) (eqb id 1) (eqb id 3)
+  where
+    go : (x y z : Bool) → Good.Least (cond x 32 (cond y 34 (cond z 48 32))) (cond x position (cond y fragment (cond z beamhopping position3))) × (8 ≤ cond x 32 (cond y 34 (cond z 48 32)))
+    go true y z = (least-position, omega arith)
+    go false true z = (least-fragment, omega arith)
+    go false false true = (least-beamhopping, omega arith)
+    go false false false = (least-position3, omega arith)
+
+-- ---- entries in front of others
+
+abbrev ahead : List (List Field) → Parse (List (List Field)) → Parse (List (List Field))
+ahead es p = andThen p (λ more rest. got (es ++ more) rest)
+
+ahead-none : (p : Parse (List (List Field))) → p ≡ ahead [] p
+ahead-none (got more rest) = refl
+ahead-none (refused x y z) = refl
+
+ahead-more : (es : List (List Field)) (ts : List Field) (p : Parse (List (List Field))) → ahead es (push ts p) ≡ ahead (es ++ ts ∷ []) p
+ahead-more es ts (got more rest) = ap (λ (y : List (List Field)). got y rest) (sym (append-assoc es (ts ∷ []) more))
+ahead-more es ts (refused x y z) = refl
+
+ledgers-more : (es : List (List Field)) (ts : List Field) → ledgers (es ++ ts ∷ []) ≡ ledgers es ++ ledger ts
+unfolding ledgers
+ledgers-more [] ts = append-nil (ledger ts)
+ledgers-more (us ∷ es) ts = rw (ledgers-more es ts) (sym (append-assoc (ledger us) (ledgers es) (ledger ts)))
+
+ledgers-nil : ledgers [] ≡ []
+unfolding ledgers
+ledgers-nil = refl
+
+-- ---- one turn of the walk, by a place
+
+module _ (body : List ℕ) (id turns at : ℕ) where
+  turn-on : (ts : List Field) (rest : List ℕ) → leastOf id ≤ 8 * length body - at → readBody (8 * length body) 0 (entryOf id) (drop at (bitsOf body)) ≡ got ts rest
+      → entriesIn body id (suc turns) at ≡ push ts (walk (λ p us. us) (8 * length body) (leastOf id) (entryOf id) turns rest)
+  unfolding walk
+  turn-on ts rest h e = rw (le-leb (leastOf id) (length (drop at (bitsOf body))) (omega (arith, rest-at body at)), e)
+
+  turn-no : (x y z : ℕ) → leastOf id ≤ 8 * length body - at → readBody (8 * length body) 0 (entryOf id) (drop at (bitsOf body)) ≡ refused x y z
+      → entriesIn body id (suc turns) at ≡ refused x y z
+  unfolding walk
+  turn-no x y z h e = rw (le-leb (leastOf id) (length (drop at (bitsOf body))) (omega (arith, rest-at body at)), e)
+
+turn-end : (body : List ℕ) (id turns at : ℕ) → 8 * length body - at < leastOf id → entriesIn body id turns at ≡ got [] (drop at (bitsOf body))
+unfolding walk
+turn-end body id zero at h = refl
+turn-end body id (suc turns) at h = rw (lt-leb (leastOf id) (length (drop at (bitsOf body))) (omega (arith, rest-at body at)))
+
+-- a description that was gone through to its end
+pub went-got : {body out out′ : List ℕ} {s : Syntax} {at place a p : ℕ} (w : Went body 0 s at place out end a p out′)
+    → readBody (8 * length body) 0 s (drop at (bitsOf body)) ≡ got (w .ts) (drop a (bitsOf body))
+unfolding readBody
+went-got {body} {a = a} w = w .reads ∙ pushes-got (w .ts) (drop a (bitsOf body))
+
+-- ---- the loop
+
+-- `count` entries are written, and those from the place on are not
+pub record Listing (body : List ℕ) (id start place : ℕ) (out₀ : List ℕ) (at there count : ℕ) (out : List ℕ) : Type 0 where
+  pub es : List (List Field)
+  pub walked : entriesAt body id start ≡ ahead es (entriesIn body id (8 * length body - start - count) at)
+  pub aligned : at % 8 ≡ 0
+  pub number : count ≡ length es
+  pub here : there ≡ place + 2 + length (ledgers es)
+  pub bytes : there ≤ length out₀ → out ≡ splice out₀ (place + 2) (ledgers es)
+  pub long : length out ≡ length out₀
+  pub placed : Placed body at there
+  pub few : start + count ≤ at
+
+pub begin : {body out : List ℕ} {id start place : ℕ} → Placed body start (place + 2) → start % 8 ≡ 0 → Listing body id start place out start (place + 2) 0 out
+begin {body} {out} {id} {start} {place} p a =
+    let turns : length (drop start (bitsOf body)) ≡ 8 * length body - start - 0 = omega (arith, rest-at body start) in
+    record {
+      es = [];
+      walked = rw (turns) (ahead-none (entriesIn body id (8 * length body - start - 0) start));
+      aligned = a;
+      number = refl;
+      here = omega (arith, ap length ledgers-nil);
+      bytes = λ _. sym (rw ledgers-nil (splice-nil out (place + 2)));
+      long = refl;
+      placed = p;
+      few = omega arith;
+    }
+
+pub ledger-size : {body out out′ : List ℕ} {e at a p : ℕ} {s s′ : Syntax} (w : Went body e s at 0 out s′ a p out′) → length (ledger (w .ts)) ≡ p
+ledger-size w = omega (arith, w .size)
+
+module _ {body out₀ out : List ℕ} {id start place at there count : ℕ} (st : Listing body id start place out₀ at there count out) where
+  abbrev n : ℕ
+  n = 8 * length body
+
+  left-turns : leastOf id ≤ n - at → n - start - count ≡ suc (n - start - (count + 1))
+  left-turns h = omega (arith, st .few, st .placed .within, least-is id .1)
+
+  pub turn : {part out′ : List ℕ} {a size : ℕ} (w : Went body 0 (entryOf id) at 0 part end a size out′) (out₁ : List ℕ) → leastOf id ≤ n - at → length out₁ ≡ length out
+      → (there + size ≤ length out → out₁ ≡ splice out there (ledger (w .ts))) → (at < a) × Listing body id start place out₀ a (there + size) (count + 1) out₁
+  turn {part} {out′} {a} {size} w out₁ h l b =
+      let e = place-at body a (w .within) in
+      let x = start-laws.ended (leastOf id) (entryOf id) (fine-of id) (least-is id .0) (least-is id .1) body at (w .ts) (drop a (bitsOf body)) (st .placed .within) (st .aligned) (went-got w) in
+      let ll = ap length (ledgers-more (st .es) (w .ts)) ∙ length-append (ledgers (st .es)) (ledger (w .ts)) in
+      let z = w .size in
+      let p = st .placed in
+      let go : at < a = omega (arith, least-is id .1, x .on, e) in (
+        go,
+        record {
+          es = st .es ++ w .ts ∷ [];
+          walked = st .walked ∙ ap (λ (k : ℕ). ahead (st .es) (entriesIn body id k at)) (left-turns h)
+              ∙ ap (ahead (st .es)) (turn-on body id (n - start - (count + 1)) at (w .ts) (drop a (bitsOf body)) h (went-got w))
+              ∙ ahead-more (st .es) (w .ts) (entriesIn body id (n - start - (count + 1)) a);
+          aligned = omega (arith, x .byte, e);
+          number = omega (arith, st .number, length-append (st .es) (w .ts ∷ []));
+          here = omega (arith, st .here);
+          bytes = λ r. b (omega (arith, st .long)) ∙ ap (λ (m : List ℕ). splice m there (ledger (w .ts))) (st .bytes (omega arith))
+              ∙ splice-splice out₀ (place + 2) (ledgers (st .es)) (ledger (w .ts)) there (st .here) (omega (arith, st .here))
+              ∙ ap (splice out₀ (place + 2)) (sym (ledgers-more (st .es) (w .ts)));
+          long = l ∙ st .long;
+          placed = record { short = p .short; within = w .within; behind = omega (arith, w .slack, p .behind) };
+          few = omega (arith, st .few, go);
+        },
+      )
+
+  pub stop : {f : Refusal} → Stopped body 0 (entryOf id) at f → leastOf id ≤ n - at → Faulty body id start f
+  stop {f} w h = record {
+    reads = st .walked ∙ ap (λ (k : ℕ). ahead (st .es) (entriesIn body id k at)) (left-turns h)
+        ∙ ap (ahead (st .es)) (turn-no body id (n - start - (count + 1)) at (f .number) (f .need) (f .have) h (w .reads));
+  }
+
+  -- no entry is left, and the count is put in front
+  pub ended : {out′ : List ℕ} → n - at < leastOf id → (place + 2 ≤ length out → out′ ≡ splice out place (digits 256 2 count)) → Wrote body id start place out₀ there out′
+  ended {out′} h b =
+      let d : List ℕ = digits 256 2 (length (st .es)) in
+      let ld : length d ≡ 2 = length-digits 256 2 (length (st .es)) in
+      let ll = length-append d (ledgers (st .es)) in
+      let p = st .placed in
+      let z = st .here in
+      record {
+        es = st .es;
+        rest = drop at (bitsOf body);
+        reads = st .walked ∙ ap (ahead (st .es)) (turn-end body id (n - start - count) at h) ∙ ap (λ (k : List (List Field)). got k (drop at (bitsOf body))) (append-nil (st .es));
+        size = omega arith;
+        bytes = λ r. b (omega (arith, st .long)) ∙ ap (λ (k : ℕ). splice out place (digits 256 2 k)) (st .number)
+            ∙ ap (λ (m : List ℕ). splice m place d) (st .bytes r)
+            ∙ splice-front out₀ d (ledgers (st .es)) place (place + 2) (omega arith) (omega arith);
+        behind = omega (arith, p .behind, p .within);
+      }
+
+pub listed-no : {body out out′ : List ℕ} {id start place : ℕ} {f : Refusal} {r : Step} → r ≡ Refused f → Faulty body id start f → Listed body id start place out out′ r
+listed-no {body} {out} {out′} {id} {start} {place} q x = subst (λ (r : Step). Listed body id start place out out′ r) (sym q) (record { to = x })

@@ -1,0 +1,58 @@
+-- What stores leave in a buffer.
+-- Assumes nothing.
+use Prim.Native.Nat.{ℕ, _+_, _-_, _≤_, _<_}
+use mathlib.Core.Path.{_≡_, sym, ap, _∙_}
+use mathlib.Core.List.{List, [], _∷_, _++_, append-assoc}
+use native.Mathlib.Numerals.{add-one}
+use native.Mathlib.Omega.{arith}
+use lib.ListN.{length, take, drop, getD, set, length-append, length-take}
+use lib.Seq.{take-append-le, take-take, take-suc, take-all, drop-at, length-take-le}
+use borrow.Rule.Slice.PartMut.{midOf, putMid, mid-len}
+use Rattle.format.specs.Digits.{splice}
+use Rattle.bits.proofs.Splices.{length-splice, splice-nil, splice-splice, set-one, part-splice}
+
+-- a piece stored in front of another is both stored at once
+pub splice-front : (l xs ys : List ℕ) (at n : ℕ) → n ≡ at + length xs → n ≤ length l → splice (splice l n ys) at xs ≡ splice l at (xs ++ ys)
+unfolding splice
+splice-front l xs ys at n e h =
+    let tail : List ℕ = drop (n + length ys) l in
+    let t : take at (take n l ++ (ys ++ tail)) ≡ take at l = take-append-le at (take n l) (ys ++ tail) (simp length-take (omega arith)) ∙ take-take at n l (omega arith) in
+    let d : drop (at + length xs) (take n l ++ (ys ++ tail)) ≡ ys ++ tail = drop-at (take n l) (ys ++ tail) (at + length xs) (simp length-take (omega arith)) in
+    let z : n + length ys ≡ at + length (xs ++ ys) = omega (arith, length-append xs ys) in
+    rw (append-assoc (take n l) ys tail, t, d) (simp append-assoc (ap (λ (k : ℕ). take at l ++ (xs ++ (ys ++ drop k l))) z))
+
+-- a part that was lent, from a place that the buffer has
+pub lent : (out part bs : List ℕ) (from there size : ℕ) → from ≤ length out → (there ≤ length out → from ≡ there) → length bs ≡ size
+    → (size ≤ length (midOf from (length out - from) out) → part ≡ splice (midOf from (length out - from) out) 0 bs)
+    → there + size ≤ length out → putMid from (length out - from) out part ≡ splice out there bs
+lent out part bs from there size h q l e r =
+    let z : from ≡ there = q (omega arith) in
+    let n : length (midOf from (length out - from) out) ≡ length out - from = mid-len from (length out) out (omega arith) in
+    part-splice out part bs from h (e (omega arith)) ∙ ap (λ (x : ℕ). splice out x bs) z
+
+-- ---- a copy, element by element
+
+pub record Copying (l out₀ : List ℕ) (i : ℕ) (out : List ℕ) : Type 0 where
+  pub within : i ≤ length l
+  pub list : out ≡ splice out₀ 0 (take i l)
+  pub long : length out ≡ length out₀
+
+pub copy-none : (l out : List ℕ) → Copying l out 0 out
+copy-none l out = record { within = omega arith; list = sym (splice-nil out 0); long = omega arith }
+
+pub copy-next : {l out₀ out : List ℕ} {i : ℕ} → Copying l out₀ i out → i < length l → length l ≤ length out₀ → Copying l out₀ (i + 1) (set out i (getD l i 0))
+copy-next {l} {out₀} {out} {i} c h m =
+    let x : ℕ = getD l i 0 in
+    let lt : length (take i l) ≡ i = length-take-le i l (c .within) in
+    let next : take (i + 1) l ≡ take i l ++ x ∷ [] = rw add-one (take-suc l i 0 h) in
+    let list : set out i x ≡ splice out₀ 0 (take (i + 1) l) =
+    set-one out i x (omega (arith, c .long)) ∙ ap (λ (m : List ℕ). splice m i (x ∷ [])) (c .list)
+    ∙ splice-splice out₀ 0 (take i l) (x ∷ []) i (omega arith) (omega arith) ∙ ap (splice out₀ 0) (sym next) in
+    record {
+      within = omega arith;
+      list = list;
+      long = ap length list ∙ length-splice out₀ 0 (take (i + 1) l) (omega (arith, length-take-le (i + 1) l (omega arith)));
+    }
+
+pub copy-all : {l out₀ out : List ℕ} {i : ℕ} → Copying l out₀ i out → length l ≤ i → out ≡ splice out₀ 0 l
+copy-all {l} {out₀} {i = i} c h = c .list ∙ ap (splice out₀ 0) (take-all i l h)

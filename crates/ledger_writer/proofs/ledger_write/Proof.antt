@@ -1,0 +1,72 @@
+-- `ledger_write`: the refusals, and the front and the content where there is room.
+-- Assumes nothing.
+use native.Mathlib.Omega.{arith}
+use borrow.Author.Needs.{needs}
+use Rattle.ledger_writer.proofs.WrittenLaws.{known, says-no, says-short, says-yes}
+use Rattle.ledger_writer.proofs.ledger_write.Statement.{statement}
+use Rattle.ledger_writer.proofs.ledger_write.Tie as tie
+
+ledger-size-requires : tie.Need-ledger-size-requires
+ledger-size-requires c κs = search needs
+
+enum-known-n : tie.Need-enum-known-n
+enum-known-n c = search needs
+
+enum-known-f : tie.Need-enum-known-f
+enum-known-f c = search needs
+
+returns : tie.Need-returns
+returns c = says-no _ _ _ (c .before .f .given .1) (c .before .before .before .ledger-size .ensures)
+
+returns-2 : tie.Need-returns-2
+returns-2 c = says-short (known (c .before .before .n .given .1) (c .before .before .before .before .ledger-size .ensures)) (c .if1 .taken)
+
+sub-put-be : tie.Need-sub-put-be
+sub-put-be c = omega (arith, (known (c .before .before .before .n .given .1) (c .before .before .before .before .before .ledger-size .ensures)) .content)
+
+put-be-requires : tie.Need-put-be-requires
+put-be-requires c κs = omega (arith, (known (c .before .before .before .n .given .1) (c .before .before .before .before .before .ledger-size .ensures)) .content)
+
+put-be-requires-2 : tie.Need-put-be-requires-2
+put-be-requires-2 c κs = omega (arith, (known (c .before .before .before .before .before .before .before .n .given .1) (c .before .before .before .before .before .before .before .before .before .ledger-size .ensures)) .content)
+
+put-be-requires-3 : tie.Need-put-be-requires-3
+put-be-requires-3 c κs = omega (arith, (known (c .before .before .before .before .before .before .before .before .before .before .before .n .given .1) (c .before .before .before .before .before .before .before .before .before .before .before .before .before .ledger-size .ensures)) .content)
+
+sub-write-content : tie.Need-sub-write-content
+sub-write-content c = omega (arith, (known (c .before .before .before .before .before .before .before .before .before .before .before .before .before .before .n .given .1) (c .before .before .before .before .before .before .before .before .before .before .before .before .before .before .before .before .ledger-size .ensures)) .content)
+
+part-write-content-start : tie.Need-part-write-content-start
+part-write-content-start c = omega (arith, (known (c .before .before .before .before .before .before .before .before .before .before .before .before .before .before .n .given .1) (c .before .before .before .before .before .before .before .before .before .before .before .before .before .before .before .before .ledger-size .ensures)) .content)
+
+part-write-content-end : tie.Need-part-write-content-end
+part-write-content-end c = search needs
+
+write-content-requires : tie.Need-write-content-requires
+write-content-requires c κs = (known (c .before .before .before .before .before .before .before .before .before .before .before .before .before .before .before .n .given .1) (c .before .before .before .before .before .before .before .before .before .before .before .before .before .before .before .before .before .ledger-size .ensures)) .short
+
+same-length : tie.Need-same-length
+same-length c = search needs
+
+returns-3 : tie.Need-returns-3
+returns-3 c = says-yes _ (c .before .before .before .before .before .before .before .before .before .before .before .before .before .before .before .before .before .before .before .before .before .before .before .fits .table-id .fits) (known (c .before .before .before .before .before .before .before .before .before .before .before .before .before .before .before .before .before .before .n .given .1) (c .before .before .before .before .before .before .before .before .before .before .before .before .before .before .before .before .before .before .before .before .ledger-size .ensures)) (c .before .before .before .before .before .before .before .before .before .before .before .before .before .before .before .before .if1 .left) (c .before .before .before .before .before .before .before .before .before .before .before .before .before .before .put-be .ensures) (c .before .before .before .before .before .before .before .before .before .before .put-be2 .ensures) (c .before .before .before .before .before .before .put-be3 .ensures) (search needs) (c .before .before .write-content .ensures)
+
+pub ledger-write-spec : {M : Type 1} → statement M
+ledger-write-spec =
+    tie.close
+    (tie.spec
+    ledger-size-requires
+    enum-known-n
+    enum-known-f
+    returns
+    returns-2
+    sub-put-be
+    put-be-requires
+    put-be-requires-2
+    put-be-requires-3
+    sub-write-content
+    part-write-content-start
+    part-write-content-end
+    write-content-requires
+    same-length
+    returns-3)

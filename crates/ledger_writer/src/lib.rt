@@ -1,0 +1,197 @@
+// The ledger of a body under its table id. The content is gone through twice: first with no buffer, for its size or the refusal,
+// and then with the buffer that is lent.
+ghost use mathlib.Core.Path.{_≡_};
+ghost use Prim.Native.Nat.{_+_, _%_, _≤_};
+ghost use lib.ListN.{length};
+ghost use Rattle.format.specs.Digits.{splice};
+ghost use Rattle.format.specs.Syntax.{end};
+ghost use Rattle.format.specs.Calls.{writeAnswer, writeLeft};
+ghost use Rattle.write_runs.specs.Went.{Placed, Ran};
+ghost use Rattle.ledger_writer.specs.Listed.{entryOf, leastOf, Listed};
+ghost use Rattle.ledger_writer.specs.Written.{Content, sizeAnswer};
+use bits::put_be;
+use format::Answer;
+use format::Refusal;
+use runs::Step;
+use runs::step_refusal;
+use write_ephemeris::write_header;
+use write_ephemeris::write_position3;
+use write_plans::write_plan;
+use write_runs::put;
+use write_tables::write_association;
+use write_tables::write_fragment;
+use write_tables::write_position;
+
+// The length of a body's ledger, or why the body is refused.
+pub enum LedgerSize {
+    Size(usize),
+    Refused(Refusal),
+}
+
+// An entry of the tables that have entries: ids 0, 1, 3 and 4.
+fn write_entry(table_id: u8, body: &[u8], at: usize, out: &mut [u8], place: usize) -> Step
+    requires { ⌜ Placed (now body) at place ⌝ }
+    requires { ⌜ at % 8 ≡ 0 ⌝ }
+    ensures { λ r. ⌜ Ran (now (body .entry)) 0 (entryOf «table_id») at place (now (out .entry)) (λ _. end) (now (out .exit)) r ⌝ }
+{
+    if table_id == 0 {
+        return write_position(body, at, out, place);
+    }
+    if table_id == 1 {
+        return write_fragment(body, at, out, place);
+    }
+    if table_id == 3 {
+        return write_plan(body, at, out, place);
+    }
+    write_position3(body, at, out, place)
+}
+
+// The bits that must remain for there to be another entry.
+fn least_of(table_id: u8) -> usize
+    ensures { λ r. ⌜ r ≡ leastOf «table_id» ⌝ }
+{
+    if table_id == 0 {
+        return 32;
+    }
+    if table_id == 1 {
+        return 34;
+    }
+    if table_id == 3 {
+        return 48;
+    }
+    32
+}
+
+// A place within a buffer of n bytes, or its end.
+fn within(place: usize, n: usize) -> usize
+    ensures { λ r. ⌜ (r ≤ n) × (place ≤ n → r ≡ place) ⌝ }
+{
+    if place < n {
+        return place;
+    }
+    n
+}
+
+// The entries from a bit place on, behind their 2-byte count.
+fn write_entries(table_id: u8, body: &[u8], start: usize, out: &mut [u8], place: usize) -> Step
+    requires { ⌜ Placed (now body) start (place + 2) ⌝ }
+    requires { ⌜ start % 8 ≡ 0 ⌝ }
+    ensures { λ r. ⌜ Listed (now (body .entry)) «table_id» start place (now (out .entry)) (now (out .exit)) r ⌝ }
+{
+    let bits = 8 * body.len();
+    let least = least_of(table_id);
+    let mut at = start;
+    let mut there = place + 2;
+    let mut count: u64 = 0;
+    while least <= bits - at {
+        let from = within(there, out.len());
+        let entry = write_entry(table_id, body, at, &mut out[from..], 0);
+        let Step::Done {
+            at: a,
+            place: size,
+            last: _,
+        } = entry
+        else {
+            return entry;
+        };
+        at = a;
+        there += size;
+        count += 1;
+    }
+    put(out, place, 2, count);
+    Step::Done {
+        at,
+        place: there,
+        last: count,
+    }
+}
+
+// Ids 5 to 255: the body as it is, where there is room for it.
+fn write_bytes(body: &[u8], out: &mut [u8])
+    ensures { λ _. ⌜ (length (now (body .entry)) ≤ length (now (out .entry)) → now (out .exit) ≡ splice (now (out .entry)) 0 (now (body .entry))) ⌝ }
+{
+    let n = body.len();
+    if n <= out.len() {
+        let mut i = 0;
+        while i < n {
+            out[i] = body[i];
+            i += 1;
+        }
+    }
+}
+
+// What stands behind a ledger's table id, where there is room for it; the place that it comes to is its size.
+fn write_content(table_id: u8, body: &[u8], out: &mut [u8]) -> Step
+    requires { ⌜ length (now body) ≤ 4096 ⌝ }
+    ensures { λ r. ⌜ Content (now (body .entry)) «table_id» (now (out .entry)) (now (out .exit)) r ⌝ }
+{
+    if 4 < table_id {
+        write_bytes(body, out);
+        return Step::Done {
+            at: 0,
+            place: body.len(),
+            last: 0,
+        };
+    }
+    if table_id == 2 {
+        return write_association(body, 0, out, 0);
+    }
+    if table_id < 4 {
+        return write_entries(table_id, body, 0, out, 0);
+    }
+    let head = write_header(body, 0, out, 0);
+    let Step::Done { at, place, last: _ } = head else {
+        return head;
+    };
+    write_entries(table_id, body, at, out, place)
+}
+
+// How long the ledger of a body is: the content is gone through with no room, so that nothing is stored.
+pub fn ledger_size(table_id: u8, body: &[u8]) -> LedgerSize
+    ensures { λ r. ⌜ r ≡ sizeAnswer «table_id» (now (body .entry)) ⌝ }
+{
+    if 4096 < body.len() {
+        return LedgerSize::Refused(Refusal {
+            number: 21,
+            need: body.len(),
+            have: 4096,
+        });
+    }
+    let mut none = [0u8; 0];
+    let content = write_content(table_id, body, &mut none);
+    let Step::Done {
+        at: _,
+        place: size,
+        last: _,
+    } = content
+    else {
+        return LedgerSize::Refused(step_refusal(content));
+    };
+    LedgerSize::Size(size + 4)
+}
+
+// The ledger of a body, at the start of the buffer, and its length; after a refusal the buffer is as it was.
+pub fn ledger_write(table_id: u8, body: &[u8], out: &mut [u8]) -> Answer
+    ensures { λ r. ⌜ (r ≡ writeAnswer «table_id» (now (body .entry)) (length (now (out .entry)))) × (now (out .exit) ≡ writeLeft «table_id» (now (body .entry)) (now (out .entry))) ⌝ }
+{
+    let need = match ledger_size(table_id, body) {
+        LedgerSize::Size(n) => n,
+        LedgerSize::Refused(f) => return Answer::Refused(f),
+    };
+    let have = out.len();
+    if have < need {
+        return Answer::Refused(Refusal {
+            number: 22,
+            need,
+            have,
+        });
+    }
+    put_be(out, 0, 2, (need - 2) as u64);
+    put_be(out, 2, 1, 1);
+    put_be(out, 3, 1, table_id as u64);
+    write_content(table_id, body, &mut out[4..]);
+    Answer::Done {
+        table_id,
+        length: need,
+    }
+}

@@ -1,0 +1,123 @@
+-- `read_flagged`: a proof with the shape of the code.
+-- Assumes nothing.
+use Prim.Native.Nat.{ℕ}
+use lib.Dec.{eqb}
+use borrow.Author.Needs.{needs}
+use borrow.Author.Tests.{eq-eqb, ne-eqb}
+use Rattle.format.specs.Syntax.{Syntax, when}
+use Rattle.format.specs.Tables.{bits, metadata, ephemerides}
+use Rattle.runs.specs.Lines.{run, signOf, widthOf}
+use Rattle.read_runs.proofs.CameLaws.{done, stops, starts, then, go-on, when-yes, when-no}
+use Rattle.read_runs.proofs.Runs.{placed-on}
+use Rattle.read_orbits.proofs.Names as names
+use Rattle.read_orbits.proofs.read_flagged.Statement.{statement}
+use Rattle.read_orbits.proofs.read_flagged.Tie as tie
+
+abbrev rest : ℕ → ℕ → ℕ → ℕ → ℕ → Syntax
+rest meta start stop accel cov = when (eqb meta 1) (metadata start stop (ephemerides accel cov)) (ephemerides accel cov)
+
+slice-aggregate-read-run : tie.Need-slice-aggregate-read-run
+slice-aggregate-read-run c = search needs
+
+read-run-requires : tie.Need-read-run-requires
+read-run-requires c κs = search needs
+
+enum-known-fourth : tie.Need-enum-known-fourth
+enum-known-fourth c = search needs
+
+enum-told : tie.Need-enum-told
+enum-told c = search needs
+
+same-length : tie.Need-same-length
+same-length c = search needs
+
+returns : tie.Need-returns
+unfolding run signOf widthOf
+returns c = stops (c .enum-told .given .1) (c .before .before .before .before .read-run .ensures .0 names.accel (λ accel. bits "covariance_flag" 1 ((rest (c .before .before .before .before .before .before .before .before .before .args .meta) (c .before .before .before .before .before .before .before .before .before .args .start) (c .before .before .before .before .before .before .before .before .before .args .stop)) accel)))
+
+slice-aggregate-read-run-2 : tie.Need-slice-aggregate-read-run-2
+slice-aggregate-read-run-2 c = search needs
+
+read-run-requires-2 : tie.Need-read-run-requires-2
+unfolding run signOf widthOf
+read-run-requires-2 c κs = (placed-on (c .before .before .before .before .before .before .before .before .before .before .before .before .pre) (done (c .before .before .before .fourth .given .1) (c .before .before .before .before .before .before .before .read-run .ensures .0 names.accel (λ accel. bits "covariance_flag" 1 ((rest (c .before .before .before .before .before .before .before .before .before .before .before .before .args .meta) (c .before .before .before .before .before .before .before .before .before .before .before .before .args .start) (c .before .before .before .before .before .before .before .before .before .before .before .before .args .stop)) accel)))), tt)
+
+enum-known-fifth : tie.Need-enum-known-fifth
+enum-known-fifth c = search needs
+
+enum-told-2 : tie.Need-enum-told-2
+enum-told-2 c = search needs
+
+same-length-2 : tie.Need-same-length-2
+same-length-2 c = search needs
+
+returns-2 : tie.Need-returns-2
+unfolding run signOf widthOf
+returns-2 c = then (done (c .before .before .before .before .before .before .before .before .fourth .given .1) (c .before .before .before .before .before .before .before .before .before .before .before .before .read-run .ensures .0 names.accel (λ accel. bits "covariance_flag" 1 ((rest (c .before .before .before .before .before .before .before .before .before .before .before .before .before .before .before .before .before .args .meta) (c .before .before .before .before .before .before .before .before .before .before .before .before .before .before .before .before .before .args .start) (c .before .before .before .before .before .before .before .before .before .before .before .before .before .before .before .before .before .args .stop)) accel)))) (stops (c .enum-told2 .given .1) (c .before .before .before .before .read-run2 .ensures .0 names.cov ((rest (c .before .before .before .before .before .before .before .before .before .before .before .before .before .before .before .before .before .args .meta) (c .before .before .before .before .before .before .before .before .before .before .before .before .before .before .before .before .before .args .start) (c .before .before .before .before .before .before .before .before .before .before .before .before .before .before .before .before .before .args .stop)) (c .before .before .before .before .before .before .before .before .fourth .given .0 .1 .1 .0))))
+
+read-metadata-requires : tie.Need-read-metadata-requires
+unfolding run signOf widthOf
+read-metadata-requires c κs = placed-on (c .before .before .before .before .before .before .before .before .before .before .before .before .before .before .before .before .before .before .before .before .pre) (go-on (done (c .before .before .before .before .before .before .before .before .before .before .before .fourth .given .1) (c .before .before .before .before .before .before .before .before .before .before .before .before .before .before .before .read-run .ensures .0 names.accel (λ accel. bits "covariance_flag" 1 ((rest (c .before .before .before .before .before .before .before .before .before .before .before .before .before .before .before .before .before .before .before .before .args .meta) (c .before .before .before .before .before .before .before .before .before .before .before .before .before .before .before .before .before .before .before .before .args .start) (c .before .before .before .before .before .before .before .before .before .before .before .before .before .before .before .before .before .before .before .before .args .stop)) accel)))) (done (c .before .before .before .fifth .given .1) (c .before .before .before .before .before .before .before .read-run2 .ensures .0 names.cov ((rest (c .before .before .before .before .before .before .before .before .before .before .before .before .before .before .before .before .before .before .before .before .args .meta) (c .before .before .before .before .before .before .before .before .before .before .before .before .before .before .before .before .before .before .before .before .args .start) (c .before .before .before .before .before .before .before .before .before .before .before .before .before .before .before .before .before .before .before .before .args .stop)) (c .before .before .before .before .before .before .before .before .before .before .before .fourth .given .0 .1 .1 .0)))))
+
+enum-known-about : tie.Need-enum-known-about
+enum-known-about c = search needs
+
+enum-told-3 : tie.Need-enum-told-3
+enum-told-3 c = search needs
+
+same-length-3 : tie.Need-same-length-3
+same-length-3 c = search needs
+
+returns-3 : tie.Need-returns-3
+unfolding run signOf widthOf
+returns-3 c = then (go-on (done (c .before .before .before .before .before .before .before .before .before .before .before .before .before .before .before .before .fourth .given .1) (c .before .before .before .before .before .before .before .before .before .before .before .before .before .before .before .before .before .before .before .before .read-run .ensures .0 names.accel (λ accel. bits "covariance_flag" 1 ((rest (c .before .before .before .before .before .before .before .before .before .before .before .before .before .before .before .before .before .before .before .before .before .before .before .before .before .args .meta) (c .before .before .before .before .before .before .before .before .before .before .before .before .before .before .before .before .before .before .before .before .before .before .before .before .before .args .start) (c .before .before .before .before .before .before .before .before .before .before .before .before .before .before .before .before .before .before .before .before .before .before .before .before .before .args .stop)) accel)))) (done (c .before .before .before .before .before .before .before .before .fifth .given .1) (c .before .before .before .before .before .before .before .before .before .before .before .before .read-run2 .ensures .0 names.cov ((rest (c .before .before .before .before .before .before .before .before .before .before .before .before .before .before .before .before .before .before .before .before .before .before .before .before .before .args .meta) (c .before .before .before .before .before .before .before .before .before .before .before .before .before .before .before .before .before .before .before .before .before .before .before .before .before .args .start) (c .before .before .before .before .before .before .before .before .before .before .before .before .before .before .before .before .before .before .before .before .before .before .before .before .before .args .stop)) (c .before .before .before .before .before .before .before .before .before .before .before .before .before .before .before .before .fourth .given .0 .1 .1 .0))))) (stops (c .enum-told3 .given .1) (starts (when-yes _ _ _ _ _ (eq-eqb _ _ (c .before .before .before .before .before .before .if1 .taken))) (c .before .before .before .before .read-metadata .ensures (ephemerides (c .before .before .before .before .before .before .before .before .before .before .before .before .before .before .before .before .fourth .given .0 .1 .1 .0) (c .before .before .before .before .before .before .before .before .fifth .given .0 .1 .1 .0)))))
+
+read-ephemerides-requires : tie.Need-read-ephemerides-requires
+unfolding run signOf widthOf
+read-ephemerides-requires c κs = placed-on (c .before .before .before .before .before .before .before .before .before .before .before .before .before .before .before .before .before .before .before .before .before .before .before .before .before .before .before .pre) (go-on (go-on (done (c .before .before .before .before .before .before .before .before .before .before .before .before .before .before .before .before .before .before .fourth .given .1) (c .before .before .before .before .before .before .before .before .before .before .before .before .before .before .before .before .before .before .before .before .before .before .read-run .ensures .0 names.accel (λ accel. bits "covariance_flag" 1 ((rest (c .before .before .before .before .before .before .before .before .before .before .before .before .before .before .before .before .before .before .before .before .before .before .before .before .before .before .before .args .meta) (c .before .before .before .before .before .before .before .before .before .before .before .before .before .before .before .before .before .before .before .before .before .before .before .before .before .before .before .args .start) (c .before .before .before .before .before .before .before .before .before .before .before .before .before .before .before .before .before .before .before .before .before .before .before .before .before .before .before .args .stop)) accel)))) (done (c .before .before .before .before .before .before .before .before .before .before .fifth .given .1) (c .before .before .before .before .before .before .before .before .before .before .before .before .before .before .read-run2 .ensures .0 names.cov ((rest (c .before .before .before .before .before .before .before .before .before .before .before .before .before .before .before .before .before .before .before .before .before .before .before .before .before .before .before .args .meta) (c .before .before .before .before .before .before .before .before .before .before .before .before .before .before .before .before .before .before .before .before .before .before .before .before .before .before .before .args .start) (c .before .before .before .before .before .before .before .before .before .before .before .before .before .before .before .before .before .before .before .before .before .before .before .before .before .before .before .args .stop)) (c .before .before .before .before .before .before .before .before .before .before .before .before .before .before .before .before .before .before .fourth .given .0 .1 .1 .0))))) (done (c .before .before .about .given .1) (starts (when-yes _ _ _ _ _ (eq-eqb _ _ (c .before .before .before .before .before .before .before .before .if1 .taken))) (c .before .before .before .before .before .before .read-metadata .ensures (ephemerides (c .before .before .before .before .before .before .before .before .before .before .before .before .before .before .before .before .before .before .fourth .given .0 .1 .1 .0) (c .before .before .before .before .before .before .before .before .before .before .fifth .given .0 .1 .1 .0))))))
+
+same-length-4 : tie.Need-same-length-4
+same-length-4 c = search needs
+
+returns-4 : tie.Need-returns-4
+unfolding run signOf widthOf
+returns-4 c = then (go-on (go-on (done (c .before .before .before .before .before .before .before .before .before .before .before .before .before .before .before .before .before .before .before .before .before .fourth .given .1) (c .before .before .before .before .before .before .before .before .before .before .before .before .before .before .before .before .before .before .before .before .before .before .before .before .before .read-run .ensures .0 names.accel (λ accel. bits "covariance_flag" 1 ((rest (c .before .before .before .before .before .before .before .before .before .before .before .before .before .before .before .before .before .before .before .before .before .before .before .before .before .before .before .before .before .before .args .meta) (c .before .before .before .before .before .before .before .before .before .before .before .before .before .before .before .before .before .before .before .before .before .before .before .before .before .before .before .before .before .before .args .start) (c .before .before .before .before .before .before .before .before .before .before .before .before .before .before .before .before .before .before .before .before .before .before .before .before .before .before .before .before .before .before .args .stop)) accel)))) (done (c .before .before .before .before .before .before .before .before .before .before .before .before .before .fifth .given .1) (c .before .before .before .before .before .before .before .before .before .before .before .before .before .before .before .before .before .read-run2 .ensures .0 names.cov ((rest (c .before .before .before .before .before .before .before .before .before .before .before .before .before .before .before .before .before .before .before .before .before .before .before .before .before .before .before .before .before .before .args .meta) (c .before .before .before .before .before .before .before .before .before .before .before .before .before .before .before .before .before .before .before .before .before .before .before .before .before .before .before .before .before .before .args .start) (c .before .before .before .before .before .before .before .before .before .before .before .before .before .before .before .before .before .before .before .before .before .before .before .before .before .before .before .before .before .before .args .stop)) (c .before .before .before .before .before .before .before .before .before .before .before .before .before .before .before .before .before .before .before .before .before .fourth .given .0 .1 .1 .0))))) (done (c .before .before .before .before .before .about .given .1) (starts (when-yes _ _ _ _ _ (eq-eqb _ _ (c .before .before .before .before .before .before .before .before .before .before .before .if1 .taken))) (c .before .before .before .before .before .before .before .before .before .read-metadata .ensures (ephemerides (c .before .before .before .before .before .before .before .before .before .before .before .before .before .before .before .before .before .before .before .before .before .fourth .given .0 .1 .1 .0) (c .before .before .before .before .before .before .before .before .before .before .before .before .before .fifth .given .0 .1 .1 .0)))))) (c .before .before .read-ephemerides .ensures)
+
+read-ephemerides-requires-2 : tie.Need-read-ephemerides-requires-2
+unfolding run signOf widthOf
+read-ephemerides-requires-2 c κs = placed-on (c .before .before .before .before .before .before .before .before .before .before .before .before .before .before .before .before .before .before .before .before .pre) (go-on (done (c .before .before .before .before .before .before .before .before .before .before .before .fourth .given .1) (c .before .before .before .before .before .before .before .before .before .before .before .before .before .before .before .read-run .ensures .0 names.accel (λ accel. bits "covariance_flag" 1 ((rest (c .before .before .before .before .before .before .before .before .before .before .before .before .before .before .before .before .before .before .before .before .args .meta) (c .before .before .before .before .before .before .before .before .before .before .before .before .before .before .before .before .before .before .before .before .args .start) (c .before .before .before .before .before .before .before .before .before .before .before .before .before .before .before .before .before .before .before .before .args .stop)) accel)))) (done (c .before .before .before .fifth .given .1) (c .before .before .before .before .before .before .before .read-run2 .ensures .0 names.cov ((rest (c .before .before .before .before .before .before .before .before .before .before .before .before .before .before .before .before .before .before .before .before .args .meta) (c .before .before .before .before .before .before .before .before .before .before .before .before .before .before .before .before .before .before .before .before .args .start) (c .before .before .before .before .before .before .before .before .before .before .before .before .before .before .before .before .before .before .before .before .args .stop)) (c .before .before .before .before .before .before .before .before .before .before .before .fourth .given .0 .1 .1 .0)))))
+
+same-length-5 : tie.Need-same-length-5
+same-length-5 c = search needs
+
+returns-5 : tie.Need-returns-5
+unfolding run signOf widthOf
+returns-5 c = then (go-on (done (c .before .before .before .before .before .before .before .before .before .before .before .before .before .before .fourth .given .1) (c .before .before .before .before .before .before .before .before .before .before .before .before .before .before .before .before .before .before .read-run .ensures .0 names.accel (λ accel. bits "covariance_flag" 1 ((rest (c .before .before .before .before .before .before .before .before .before .before .before .before .before .before .before .before .before .before .before .before .before .before .before .args .meta) (c .before .before .before .before .before .before .before .before .before .before .before .before .before .before .before .before .before .before .before .before .before .before .before .args .start) (c .before .before .before .before .before .before .before .before .before .before .before .before .before .before .before .before .before .before .before .before .before .before .before .args .stop)) accel)))) (done (c .before .before .before .before .before .before .fifth .given .1) (c .before .before .before .before .before .before .before .before .before .before .read-run2 .ensures .0 names.cov ((rest (c .before .before .before .before .before .before .before .before .before .before .before .before .before .before .before .before .before .before .before .before .before .before .before .args .meta) (c .before .before .before .before .before .before .before .before .before .before .before .before .before .before .before .before .before .before .before .before .before .before .before .args .start) (c .before .before .before .before .before .before .before .before .before .before .before .before .before .before .before .before .before .before .before .before .before .before .before .args .stop)) (c .before .before .before .before .before .before .before .before .before .before .before .before .before .before .fourth .given .0 .1 .1 .0))))) (starts (when-no _ _ _ _ _ (ne-eqb _ _ (c .before .before .before .before .if1 .left))) (c .before .before .read-ephemerides2 .ensures))
+
+pub read-flagged-spec : {M : Type 1} → statement M
+read-flagged-spec =
+    tie.close
+    (tie.spec
+    slice-aggregate-read-run
+    read-run-requires
+    enum-known-fourth
+    enum-told
+    same-length
+    returns
+    slice-aggregate-read-run-2
+    read-run-requires-2
+    enum-known-fifth
+    enum-told-2
+    same-length-2
+    returns-2
+    read-metadata-requires
+    enum-known-about
+    enum-told-3
+    same-length-3
+    returns-3
+    read-ephemerides-requires
+    same-length-4
+    returns-4
+    read-ephemerides-requires-2
+    same-length-5
+    returns-5)

@@ -1,0 +1,143 @@
+-- A plan laid: its length in front of the fields that it counts.
+-- Assumes nothing.
+use Prim.Native.Nat.{ℕ, _+_, _-_, _*_, _/_, _%_, _^_, _≤_}
+use mathlib.Core.Path.{_≡_, sym, ap, _∙_, subst}
+use mathlib.Core.List.{List, [], _∷_, _++_, append-assoc}
+use native.Mathlib.Omega.{arith}
+use lib.Dec.{eqb}
+use lib.ListN.{length, take, drop, length-append, length-drop}
+use lib.Seq.{drop-drop, take-append-le, take-take, drop-at, length-take-le}
+use Rattle.format.specs.Digits.{digits, value, bitsOf, splice}
+use Rattle.format.specs.Syntax.{Name, Syntax, end, plan, Field, num, len, Parse, got, push}
+use Rattle.format.specs.Body.{plain}
+use Rattle.format.specs.Ledger.{widened, readLedger}
+use Rattle.format.specs.declared.Refusal.{Refusal}
+use Rattle.format.proofs.DigitLaws.{length-digits, length-bits}
+use Rattle.format.proofs.ParseLaws.{push-got, grant-got}
+use Rattle.format.proofs.Good.{plain-nil, plain-num}
+use Rattle.bits.proofs.Splices.{splice-splice}
+use Rattle.runs.specs.Lines.{signOf, widthOf, sizeOf, run, widthsOf, sizesOf, headName, tailNames}
+use Rattle.runs.specs.declared.Step.{Step}
+use Rattle.runs.specs.declared.Step.the-variants.{Done, Refused}
+use Rattle.write_runs.specs.Went.{pushes}
+use Rattle.write_runs.proofs.WentLaws.{pushes-append, pushes-refused, pushes-got}
+use Rattle.read_runs.specs.Came.{Came, Halted, Laid}
+use Rattle.read_runs.proofs.CameLaws.{done, stopped}
+use Rattle.read_plans.specs.Taken.{Took, Taken, SparedTo, Spared}
+
+-- ---- how far a run goes
+
+run-got : (n : ℕ) (nms : List Name) (v : ℕ) (marks bs : List ℕ) {ts : List Field} {rest : List ℕ} → readLedger n (run nms v marks (λ _. end)) bs ≡ got ts rest
+    → (length (plain ts) ≡ widthsOf marks) × (sizesOf marks ≤ length bs) × (rest ≡ drop (sizesOf marks) bs)
+unfolding readLedger run sizeOf
+run-got n nms v [] bs {ts} {rest} q =
+    let e : ts ≡ [] = cc in
+    let d : rest ≡ bs = cc in
+    (rw e plain-nil, omega arith, d)
+run-got n nms v (c ∷ cs) bs {ts} {rest} q =
+    let z : ℕ = sizeOf c in
+    let x : ℕ = value 256 (take z bs) in
+    let y : ℕ = x % 2 ^ widthOf c in
+    let t : Field = num (signOf c) (headName nms) (widthOf c) y in
+    let p = grant-got n z (eqb (widened (signOf c) (widthOf c) y) x) bs (push t (readLedger n (run (tailNames nms) y cs (λ _. end)) (drop z bs))) q in
+    let o = push-got t (readLedger n (run (tailNames nms) y cs (λ _. end)) (drop z bs)) (p .2) in
+    let r = run-got n (tailNames nms) y cs (drop z bs) (o .1) in (
+      rw (o .2) (plain-num (signOf c) (headName nms) (widthOf c) y (o .0) ∙ ap (λ (k : ℕ). widthOf c + k) (r .0)),
+      omega (arith, p .0, r .1, length-drop z bs),
+      r .2 ∙ drop-drop (sizesOf cs) z bs,
+    )
+
+pub run-moved : (marks : List ℕ) {l out out′ : List ℕ} {place at a p v : ℕ} {r : Step} → r ≡ Done a p v → place ≤ length l
+    → ((nms : List Name) (k : ℕ → Syntax) → Laid l (run nms 0 marks k) place at out k out′ r) → (a ≡ at + widthsOf marks) × (p ≡ place + sizesOf marks)
+unfolding readLedger
+run-moved marks {l} {out} {out′} {place} {at} {a} {p} q h y =
+    let w : Came l (run [] 0 marks (λ _. end)) place at out end p a out′ = done q (y [] (λ _. end)) in
+    let g = run-got (length l) [] 0 marks (drop place l) (w .reads ∙ pushes-got (w .ts) (drop p l)) in (
+      omega (arith, w .size, g .0),
+      omega (arith, g .1, ap length (g .2), w .within, length-drop p l, length-drop place l, length-drop (sizesOf marks) (drop place l)),
+    )
+
+-- ---- what is stored in front of what was stored
+
+splice-front : (l xs ys : List ℕ) (at n : ℕ) → n ≡ at + length xs → n ≤ length l → splice (splice l n ys) at xs ≡ splice l at (xs ++ ys)
+unfolding splice
+splice-front l xs ys at n e h =
+    let a = take n l in
+    let r = drop (n + length ys) l in
+    let t : take at (a ++ ys ++ r) ≡ take at l = ap (take at) (append-assoc a ys r) ∙ take-append-le at a (ys ++ r) (omega (arith, length-take-le n l h)) ∙ take-take at n l (omega arith) in
+    let d : drop (at + length xs) (a ++ ys ++ r) ≡ ys ++ r =
+    ap (λ (k : ℕ). drop k (a ++ ys ++ r)) (sym e) ∙ ap (drop n) (append-assoc a ys r) ∙ drop-at a (ys ++ r) n (length-take-le n l h) in
+    let z : at + length (xs ++ ys) ≡ n + length ys = omega (arith, length-append xs ys) in
+    rw (t, d, z, append-assoc (take at l) xs (ys ++ r), append-assoc (take at l) (xs ++ ys) r, append-assoc xs ys r)
+
+-- ---- entries
+
+pushes-more : (xs ys : List Field) (rest : List ℕ) → pushes xs (got ys rest) ≡ got (xs ++ ys) rest
+pushes-more xs ys rest = ap (pushes xs) (sym (pushes-got ys rest)) ∙ sym (pushes-append xs ys (got [] rest)) ∙ pushes-got (xs ++ ys) rest
+
+module _ {l : List ℕ} where
+  -- an entry without a plan's length
+  pub as-taken : {place at : ℕ} {s : Syntax} {out out′ : List ℕ} {r : Step} → Laid l s place at out (λ _. end) out′ r → Taken l s place at out out′ r
+  unfolding readLedger
+  as-taken {r = Done a p v} x =
+      let w = x .to in
+      record { to = record { ts = w .ts; reads = w .reads ∙ pushes-got (w .ts) (drop p l); size = w .size; bits = w .bits; long = w .long; within = w .within; slack = w .slack } }
+  as-taken {r = Refused f} x = record { to = x .to }
+
+  pub taken-no : {place at : ℕ} {s : Syntax} {out out₁ out₂ : List ℕ} {k : ℕ → Syntax} {f : Refusal} {r : Step} → r ≡ Refused f
+      → Laid l s place at out k out₁ r → Taken l s place at out out₂ r
+  taken-no {r = Done a p v} q x = let o : _≡_ {A = ℕ} 0 1 = cc in absurd (omega arith)
+  taken-no {r = Refused g} q x = record { to = x .to }
+
+module _ {l : List ℕ} {s k : Syntax} {nm : Name} {place at place₁ at₁ : ℕ} {out out₁ : List ℕ} (x : Came l s place at out (plan nm k) place₁ at₁ out₁) where
+  -- a refusal within a plan
+  pub plan-no : {at₂ : ℕ} {out₂ out₃ : List ℕ} {j : ℕ → Syntax} {f : Refusal} {r : Step} → r ≡ Refused f → Laid l k place₁ at₂ out₁ j out₂ r → Taken l s place at out out₃ r
+  unfolding readLedger
+  plan-no {out₃ = out₃} {f = f} q y =
+      let h : Halted l k place₁ f = stopped q y in
+      subst (λ (r : Step). Taken l s place at out out₃ r) (sym q)
+      (record { to = record { reads = x .reads ∙ ap (λ (a : Parse (List Field)). pushes (x .ts) (push (len nm) a)) (h .reads) ∙ pushes-refused (x .ts) (f .number) (f .need) (f .have) } })
+
+  -- the length is stored in front of the fields that it counts
+  pub plan-took : {place₂ at₂ : ℕ} {out₂ out₃ : List ℕ} (w : Came l k place₁ (at₁ + 12) out₁ end place₂ at₂ out₂)
+      → (at₁ + 12 ≤ 8 * length out₂ → bitsOf out₃ ≡ splice (bitsOf out₂) at₁ (digits 2 12 ((at₂ - (at₁ + 12)) / 8))) → length out₃ ≡ length out₂
+      → at₂ + 8 * place ≤ at + 8 * place₂ → Took l s place at out place₂ at₂ out₃
+  unfolding readLedger plain
+  plan-took {place₂} {at₂} {out₂} {out₃} w b long slack =
+      let a = plain (x .ts) in
+      let c = plain (w .ts) in
+      let v : (at₂ - (at₁ + 12)) / 8 ≡ length c / 8 = omega (arith, w .size) in
+      let d : List ℕ = digits 2 12 (length c / 8) in
+      let n : length d ≡ 12 = length-digits 2 12 (length c / 8) in
+      let j : plain (x .ts ++ (len nm ∷ w .ts)) ≡ a ++ (d ++ c) = x .joins (len nm ∷ w .ts) in
+      let m : length (plain (x .ts ++ (len nm ∷ w .ts))) ≡ length a + (12 + length c) = ap length j ∙ length-append a (d ++ c) ∙ ap (λ (k : ℕ). length a + k) (length-append d c ∙ ap (λ (k : ℕ). k + length c) n) in
+      let z = x .size in
+      let z′ = w .size in
+      record {
+        ts = x .ts ++ (len nm ∷ w .ts);
+        reads = x .reads ∙ ap (λ (p : Parse (List Field)). pushes (x .ts) (push (len nm) p)) (w .reads ∙ pushes-got (w .ts) (drop place₂ l))
+            ∙ pushes-more (x .ts) (len nm ∷ w .ts) (drop place₂ l);
+        size = omega arith;
+        bits = λ h. b (omega (arith, w .long, x .long)) ∙ ap (λ (k : ℕ). splice (bitsOf out₂) at₁ (digits 2 12 k)) v
+            ∙ ap (λ (o : List ℕ). splice o at₁ d) (w .bits (omega (arith, x .long)))
+            ∙ splice-front (bitsOf out₁) d c at₁ (at₁ + 12) (omega arith) (omega (arith, length-bits out₁, x .long))
+            ∙ ap (λ (o : List ℕ). splice o at₁ (d ++ c)) (x .bits (omega arith))
+            ∙ splice-splice (bitsOf out) at a (d ++ c) at₁ (x .size) (omega (arith, length-bits out))
+            ∙ ap (splice (bitsOf out) at) (sym j);
+        long = long ∙ w .long ∙ x .long;
+        within = w .within;
+        slack = slack;
+      }
+
+-- ---- what the fields within a plan spare
+
+pub spared : {l out out′ : List ℕ} {s : Syntax} {k : ℕ → Syntax} {place at place₁ at₁ : ℕ} {r : Step} → at₁ + 8 * place + 8 ≤ at + 8 * place₁
+    → Laid l s place₁ at₁ out k out′ r → Spared place at r
+spared {r = Done a p v} h x = record { to = omega (arith, x .to .slack) }
+spared {r = Refused f} h x = record { to = tt }
+
+pub spared-no : {place at : ℕ} {f : Refusal} {r : Step} → r ≡ Refused f → Spared place at r
+spared-no {place} {at} q = subst (λ (r : Step). Spared place at r) (sym q) (record { to = tt })
+
+pub spared-done : {place at a p v : ℕ} {r : Step} → r ≡ Done a p v → Spared place at r → a + 8 * place + 8 ≤ at + 8 * p
+spared-done {place} {at} q x = subst (λ (r : Step). SparedTo place at r) q (x .to)

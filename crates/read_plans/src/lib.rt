@@ -1,0 +1,202 @@
+// Id 3: a beam hopping time plan of a ledger, laid as the bits of a body.
+ghost use mathlib.Core.Path.{_≡_};
+ghost use Prim.Native.Nat.{_+_, _*_, _≤_, _<_};
+ghost use lib.ListN.{length};
+ghost use Rattle.format.specs.Digits.{bitsOf, splice};
+ghost use Rattle.format.specs.Syntax.{Name, Syntax, end, slots, raw};
+ghost use Rattle.format.specs.Tables.{bitmap, mode, hopping, beamhopping};
+ghost use Rattle.read_runs.specs.Came.{LedgerPlaced, Laid};
+ghost use Rattle.read_plans.specs.Taken.{Taken, Spared};
+use bits::get_be;
+use bits::value_at;
+use format::Refusal;
+use read_runs::lay;
+use read_runs::read_run;
+use runs::Step;
+
+// A plan's first fields, those in front of its clocks, and the clocks by twos and by fours.
+const PLAN: [u8; 2] = [32, 4];
+
+const MODE: [u8; 2] = [6, 2];
+
+const CLOCKS: [u8; 6] = [33, 6, 9, 33, 6, 9];
+
+const GRID: [u8; 12] = [33, 6, 9, 33, 6, 9, 33, 6, 9, 33, 6, 9];
+
+// Either number of slots: the size of the map, the current slot.
+const SLOT: [u8; 2] = [1, 15];
+
+// Stores bytes at a bit place where there is room for them.
+fn lay_bytes(bytes: &[u8], out: &mut [u8], at: usize)
+    requires { ⌜ at + 8 * length (now bytes) ≤ 600000 ⌝ }
+    ensures { λ _. ⌜ (at + 8 * length (now (bytes .entry)) ≤ 8 * length (now (out .entry)) → bitsOf (now (out .exit)) ≡ splice (bitsOf (now (out .entry))) at (bitsOf (now (bytes .entry)))) ⌝ }
+{
+    let mut i: usize = 0;
+    while i < bytes.len() {
+        lay(out, at + 8 * i, 8, bytes[i] as u64);
+        i += 1;
+    }
+}
+
+// Slots: so many single bits in bytes that are laid as they are, once the bits behind the slots are known to be zero.
+fn read_slots(ledger: &[u8], place: usize, m: usize, out: &mut [u8], at: usize) -> Step
+    requires { ⌜ LedgerPlaced (now ledger) place at ⌝ }
+    requires { ⌜ m < 32768 ⌝ }
+    ensures { λ r. ⌜ ((nm : Name) (s : Syntax) → Laid (now (ledger .entry)) (slots nm 12 m s) place at (now (out .entry)) (λ _. s) (now (out .exit)) r) ⌝ }
+{
+    let whole = (m + 7) / 8;
+    if ledger.len() - place < whole {
+        return Step::Refused(Refusal {
+            number: 23,
+            need: place,
+            have: 0,
+        });
+    }
+    let end = place + whole;
+    let packed = &ledger[place..end];
+    if value_at(packed, m, 8 * whole - m) != 0 {
+        return Step::Refused(Refusal {
+            number: 25,
+            need: place,
+            have: 0,
+        });
+    }
+    lay_bytes(packed, out, at);
+    Step::Done {
+        at: at + 8 * whole,
+        place: end,
+        last: 0,
+    }
+}
+
+// Raw bytes, behind their length.
+fn read_raw(ledger: &[u8], place: usize, out: &mut [u8], at: usize) -> Step
+    requires { ⌜ LedgerPlaced (now ledger) place at ⌝ }
+    ensures { λ r. ⌜ ((nm : Name) → Laid (now (ledger .entry)) (raw nm) place at (now (out .entry)) (λ _. end) (now (out .exit)) r) ⌝ }
+{
+    if ledger.len() - place < 2 {
+        return Step::Refused(Refusal {
+            number: 23,
+            need: place,
+            have: 0,
+        });
+    }
+    let count = get_be(ledger, place, 2) as usize;
+    let start = place + 2;
+    if ledger.len() - start < count {
+        return Step::Refused(Refusal {
+            number: 23,
+            need: start,
+            have: 0,
+        });
+    }
+    let end = start + count;
+    lay_bytes(&ledger[start..end], out, at);
+    Step::Done {
+        at: at + 8 * count,
+        place: end,
+        last: 0,
+    }
+}
+
+// Mode 1: a map of slots.
+fn read_bitmap(ledger: &[u8], place: usize, out: &mut [u8], at: usize) -> Step
+    requires { ⌜ LedgerPlaced (now ledger) place at ⌝ }
+    ensures { λ r. ⌜ Laid (now (ledger .entry)) bitmap place at (now (out .entry)) (λ _. end) (now (out .exit)) r ⌝ }
+{
+    let size = read_run(ledger, place, &SLOT, out, at);
+    let Step::Done {
+        at: a1,
+        place: p1,
+        last: slots,
+    } = size
+    else {
+        return size;
+    };
+    let current = read_run(ledger, p1, &SLOT, out, a1);
+    let Step::Done {
+        at: a2,
+        place: p2,
+        last: _,
+    } = current
+    else {
+        return current;
+    };
+    read_slots(ledger, p2, slots as usize, out, a2)
+}
+
+// The fields of a plan's mode, by its number.
+fn read_mode(ledger: &[u8], place: usize, kind: u64, out: &mut [u8], at: usize) -> Step
+    requires { ⌜ LedgerPlaced (now ledger) place at ⌝ }
+    ensures { λ r. ⌜ Laid (now (ledger .entry)) (mode kind) place at (now (out .entry)) (λ _. end) (now (out .exit)) r ⌝ }
+{
+    if kind == 0 {
+        return read_run(ledger, place, &CLOCKS, out, at);
+    }
+    if kind == 1 {
+        return read_bitmap(ledger, place, out, at);
+    }
+    if kind == 2 {
+        return read_run(ledger, place, &GRID, out, at);
+    }
+    read_raw(ledger, place, out, at)
+}
+
+// What a plan's length counts.
+fn read_hopping(ledger: &[u8], place: usize, out: &mut [u8], at: usize) -> Step
+    requires { ⌜ LedgerPlaced (now ledger) place at ⌝ }
+    ensures { λ r. ⌜ Laid (now (ledger .entry)) hopping place at (now (out .entry)) (λ _. end) (now (out .exit)) r ⌝ }
+    ensures { λ r. ⌜ Spared place at r ⌝ }
+{
+    let head = read_run(ledger, place, &MODE, out, at);
+    let Step::Done {
+        at: a1,
+        place: p1,
+        last: kind,
+    } = head
+    else {
+        return head;
+    };
+    let clocks = read_run(ledger, p1, &CLOCKS, out, a1);
+    let Step::Done {
+        at: a2,
+        place: p2,
+        last: _,
+    } = clocks
+    else {
+        return clocks;
+    };
+    read_mode(ledger, p2, kind, out, a2)
+}
+
+// A plan. Its length is not in the ledger: it is stored once the fields that it counts are laid.
+pub fn read_plan(ledger: &[u8], place: usize, out: &mut [u8], at: usize) -> Step
+    requires { ⌜ LedgerPlaced (now ledger) place (at + 8) ⌝ }
+    ensures { λ r. ⌜ Taken (now (ledger .entry)) beamhopping place at (now (out .entry)) (now (out .exit)) r ⌝ }
+{
+    let head = read_run(ledger, place, &PLAN, out, at);
+    let Step::Done {
+        at: a1,
+        place: p1,
+        last: _,
+    } = head
+    else {
+        return head;
+    };
+    let inside = a1 + 12;
+    let hopping = read_hopping(ledger, p1, out, inside);
+    let Step::Done {
+        at: a2,
+        place: p2,
+        last,
+    } = hopping
+    else {
+        return hopping;
+    };
+    lay(out, a1, 12, ((a2 - inside) / 8) as u64);
+    Step::Done {
+        at: a2,
+        place: p2,
+        last,
+    }
+}

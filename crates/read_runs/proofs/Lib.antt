@@ -1,0 +1,3 @@
+pub mod CameLaws
+pub mod LayLaws
+pub mod Runs

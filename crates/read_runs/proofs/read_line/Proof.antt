@@ -1,0 +1,69 @@
+-- `read_line`: the bytes are missing, or are no number of the field, or its bits are laid.
+-- Assumes nothing.
+use mathlib.Core.Path.{sym, _∙_}
+use native.Mathlib.Nat.{mod-lt}
+use native.Mathlib.Omega.{arith}
+use lib.Pow.{pow-pos}
+use borrow.Author.Needs.{needs}
+use Rattle.runs.specs.Lines.{widthOf}
+use Rattle.runs.proofs.MarkLaws.{mark-facts}
+use Rattle.read_runs.proofs.CameLaws.{line-done, missing, wrong}
+use Rattle.read_runs.proofs.read_line.Statement.{statement}
+use Rattle.read_runs.proofs.read_line.Tie as tie
+
+size-of-requires : tie.Need-size-of-requires
+size-of-requires c κs = search needs
+
+sub-if1 : tie.Need-sub-if1
+sub-if1 c = search needs
+
+returns : tie.Need-returns
+returns c = (λ nm k. record { to = missing _ _ nm _ k (c .before .size-of .ensures) ((c .before .before .before .before .pre .0) .within) (c .if1 .taken) }, pow-pos _)
+
+get-be-requires : tie.Need-get-be-requires
+get-be-requires c κs = omega (arith, (c .before .before .before .before .pre .0) .within, (mark-facts (c .before .before .before .before .args .mark) (c .before .before .before .before .pre .1)) .eight, c .before .size-of .ensures, c .if1 .left)
+
+low-of-requires : tie.Need-low-of-requires
+low-of-requires c κs = search needs
+
+shown-of-requires : tie.Need-shown-of-requires
+shown-of-requires c κs = (c .before .before .before .before .before .before .pre .1, (rw (c .low-of .ensures) (mod-lt (c .before .get-be .result) (pow-pos (widthOf (c .before .before .before .before .before .before .args .mark))))))
+
+returns-2 : tie.Need-returns-2
+returns-2 c = (λ nm k. record { to = wrong _ _ nm (c .before .before .before .before .before .before .before .before .args .mark) k (c .before .before .before .before .before .size-of .ensures) ((c .before .before .before .before .before .before .before .before .pre .0) .within) (c .before .before .before .before .if1 .left) (c .before .before .before .get-be .ensures) (c .before .before .low-of .ensures) (λ z. (c .if2 .taken) (c .before .shown-of .ensures ∙ z)) }, pow-pos _)
+
+width-of-requires : tie.Need-width-of-requires
+width-of-requires c κs = search needs
+
+lay-requires : tie.Need-lay-requires
+lay-requires c κs = omega (arith, (c .before .before .before .before .before .before .before .before .before .before .pre .0) .within, (c .before .before .before .before .before .before .before .before .before .before .pre .0) .short, (c .before .before .before .before .before .before .before .before .before .before .pre .0) .behind, (mark-facts (c .before .before .before .before .before .before .before .before .before .before .args .mark) (c .before .before .before .before .before .before .before .before .before .before .pre .1)) .most, c .before .width-of .ensures)
+
+add-t10 : tie.Need-add-t10
+add-t10 c = omega (arith, (c .before .before .before .before .before .before .before .before .before .before .before .before .before .pre .0) .within, (c .before .before .before .before .before .before .before .before .before .before .before .before .before .pre .0) .short, (c .before .before .before .before .before .before .before .before .before .before .before .before .before .pre .0) .behind, (mark-facts (c .before .before .before .before .before .before .before .before .before .before .before .before .before .args .mark) (c .before .before .before .before .before .before .before .before .before .before .before .before .before .pre .1)) .most, c .before .before .before .before .width-of .ensures)
+
+add-t11 : tie.Need-add-t11
+add-t11 c = search needs
+
+same-length : tie.Need-same-length
+same-length c = search needs
+
+returns-3 : tie.Need-returns-3
+returns-3 c = (λ nm k. record { to = line-done nm (c .before .before .before .before .before .before .before .before .before .before .before .before .before .args .mark) k (c .before .before .before .before .before .before .before .before .before .before .before .before .before .pre .1) (c .before .before .before .before .width-of .ensures) (c .before .before .before .before .before .before .before .before .before .before .size-of .ensures) ((c .before .before .before .before .before .before .before .before .before .before .before .before .before .pre .0) .within) (c .before .before .before .before .before .before .before .before .before .if1 .left) (c .before .before .before .before .before .before .before .before .get-be .ensures) (c .before .before .before .before .before .before .before .low-of .ensures) (sym (c .before .before .before .before .before .before .shown-of .ensures) ∙ c .before .before .before .before .before .if2 .left) (c .before .before .lay .ensures) (search needs) }, (rw (c .before .before .before .before .before .before .before .low-of .ensures) (mod-lt (c .before .before .before .before .before .before .before .before .get-be .result) (pow-pos (widthOf (c .before .before .before .before .before .before .before .before .before .before .before .before .before .args .mark))))))
+
+pub read-line-spec : {M : Type 1} → statement M
+read-line-spec =
+    tie.close
+    (tie.spec
+    size-of-requires
+    sub-if1
+    returns
+    get-be-requires
+    low-of-requires
+    shown-of-requires
+    returns-2
+    width-of-requires
+    lay-requires
+    add-t10
+    add-t11
+    same-length
+    returns-3)

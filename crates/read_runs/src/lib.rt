@@ -1,0 +1,135 @@
+// Fields of a ledger, gone through by their marks and laid as the bits of a body on the way.
+// Where the buffer is too short it may keep anything, and the answer is the same: so the size is asked for with an empty one.
+ghost use mathlib.Core.Path.{_≡_};
+ghost use mathlib.Core.List.{List};
+ghost use Prim.Native.Nat.{ℕ, _+_, _-_, _*_, _^_, _≤_, _<_};
+ghost use lib.Dec.{T};
+ghost use lib.ListN.{length, getD};
+ghost use Rattle.format.specs.Digits.{digits, bitsOf, splice};
+ghost use Rattle.format.specs.Syntax.{Name, Syntax};
+ghost use Rattle.format.specs.Tables.{times};
+ghost use Rattle.runs.specs.Lines.{widthOf, markOk, marksOk, line, run, runOf};
+ghost use Rattle.runs.specs.Steps.{lastOf};
+ghost use Rattle.read_runs.specs.Came.{LedgerPlaced, Laid};
+use bits::get_be;
+use bits::write_u;
+use format::Refusal;
+use runs::Step;
+use runs::low_of;
+use runs::shown_of;
+use runs::size_of;
+use runs::width_of;
+
+// Stores the low bits of v at a bit place where there is room for them. Only the bytes that get some are lent.
+pub fn lay(out: &mut [u8], at: usize, width: usize, v: u64)
+    requires { ⌜ (at ≤ 600000) × (width ≤ 64) ⌝ }
+    ensures { λ _. ⌜ (at + width ≤ 8 * length (now (out .entry)) → bitsOf (now (out .exit)) ≡ splice (bitsOf (now (out .entry))) at (digits 2 width v)) ⌝ }
+{
+    let end = (at + width + 7) / 8;
+    if end <= out.len() {
+        write_u(&mut out[at / 8..end], at % 8, width, v);
+    }
+}
+
+// One field.
+pub fn read_line(ledger: &[u8], place: usize, mark: u8, out: &mut [u8], at: usize) -> Step
+    requires { ⌜ LedgerPlaced (now ledger) place at ⌝ }
+    requires { ⌜ T (markOk mark) ⌝ }
+    ensures { λ r. ⌜ ((nm : Name) (k : ℕ → Syntax) → Laid (now (ledger .entry)) (line nm mark k) place at (now (out .entry)) k (now (out .exit)) r) ⌝ }
+    ensures { λ r. ⌜ lastOf r < 2 ^ widthOf mark ⌝ }
+{
+    let size = size_of(mark);
+    if ledger.len() - place < size {
+        return Step::Refused(Refusal {
+            number: 23,
+            need: place,
+            have: 0,
+        });
+    }
+    let x = get_be(ledger, place, size);
+    let v = low_of(mark, x);
+    if shown_of(mark, v) != x {
+        return Step::Refused(Refusal {
+            number: 25,
+            need: place,
+            have: 0,
+        });
+    }
+    let width = width_of(mark);
+    lay(out, at, width, v);
+    Step::Done {
+        at: at + width,
+        place: place + size,
+        last: v,
+    }
+}
+
+// A run of fields.
+pub fn read_run(ledger: &[u8], place: usize, marks: &[u8], out: &mut [u8], at: usize) -> Step
+    requires { ⌜ LedgerPlaced (now ledger) place at ⌝ }
+    requires { ⌜ T (marksOk (now marks)) ⌝ }
+    ensures { λ r. ⌜ ((nms : List Name) (k : ℕ → Syntax) → Laid (now (ledger .entry)) (run nms 0 (now (marks .entry)) k) place at (now (out .entry)) k (now (out .exit)) r) ⌝ }
+    ensures { λ r. ⌜ lastOf r < 2 ^ widthOf (getD (now (marks .entry)) (length (now (marks .entry)) - 1) 0) ⌝ }
+{
+    let mut here = at;
+    let mut there = place;
+    let mut value: u64 = 0;
+    let mut i = 0;
+    while i < marks.len() {
+        let step = read_line(ledger, there, marks[i], out, here);
+        let Step::Done {
+            at: a,
+            place: p,
+            last,
+        } = step
+        else {
+            return step;
+        };
+        here = a;
+        there = p;
+        value = last;
+        i += 1;
+    }
+    Step::Done {
+        at: here,
+        place: there,
+        last: value,
+    }
+}
+
+// The same run count times.
+pub fn read_counted(
+    ledger: &[u8],
+    place: usize,
+    marks: &[u8],
+    count: u64,
+    out: &mut [u8],
+    at: usize,
+) -> Step
+    requires { ⌜ LedgerPlaced (now ledger) place at ⌝ }
+    requires { ⌜ T (marksOk (now marks)) ⌝ }
+    ensures { λ r. ⌜ ((nms : List Name) (s : Syntax) → Laid (now (ledger .entry)) (times count (runOf nms (now (marks .entry))) s) place at (now (out .entry)) (λ _. s) (now (out .exit)) r) ⌝ }
+{
+    let mut here = at;
+    let mut there = place;
+    let mut i: u64 = 0;
+    while i < count {
+        let step = read_run(ledger, there, marks, out, here);
+        let Step::Done {
+            at: a,
+            place: p,
+            last: _,
+        } = step
+        else {
+            return step;
+        };
+        here = a;
+        there = p;
+        i += 1;
+    }
+    Step::Done {
+        at: here,
+        place: there,
+        last: 0,
+    }
+}

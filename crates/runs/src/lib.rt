@@ -1,0 +1,88 @@
+// What a field is, by the mark that runs of fields have for it: its bits in a body, its bytes in a ledger, its number there.
+ghost use mathlib.Core.Path.{_≡_};
+ghost use Prim.Native.Nat.{_%_, _^_, _<_};
+ghost use lib.Dec.{T};
+ghost use Rattle.runs.specs.Lines.{widthOf, sizeOf, shownOf, markOk};
+ghost use Rattle.runs.specs.Steps.{refusalIn};
+use format::Refusal;
+
+// Where a step came to: its place in the body, in bits, its place in the ledger, and the last field's number; or a refusal.
+pub enum Step {
+    Done { at: usize, place: usize, last: u64 },
+    Refused(Refusal),
+}
+
+// The refusal of a step; zeros where there is none.
+pub fn step_refusal(step: Step) -> Refusal
+    ensures { λ f. ⌜ f ≡ refusalIn step ⌝ }
+{
+    match step {
+        Step::Done {
+            at: _,
+            place: _,
+            last: _,
+        } => Refusal {
+            number: 0,
+            need: 0,
+            have: 0,
+        },
+        Step::Refused(f) => f,
+    }
+}
+
+// The bits of a field in a body.
+pub fn width_of(mark: u8) -> usize
+    ensures { λ r. ⌜ r ≡ widthOf mark ⌝ }
+{
+    if mark < 128 {
+        return mark as usize;
+    }
+    (mark - 128) as usize
+}
+
+// The bytes of a field in a ledger.
+pub fn size_of(mark: u8) -> usize
+    ensures { λ r. ⌜ r ≡ sizeOf mark ⌝ }
+{
+    if 128 <= mark {
+        return 4;
+    }
+    if mark <= 8 {
+        return 1;
+    }
+    if mark <= 16 {
+        return 2;
+    }
+    if mark <= 32 {
+        return 4;
+    }
+    8
+}
+
+// The number that a ledger has for the number v of a field: a signed one is widened to 32 bits.
+pub fn shown_of(mark: u8, v: u64) -> u64
+    requires { ⌜ T (markOk mark) ⌝ }
+    requires { ⌜ v < 2 ^ widthOf mark ⌝ }
+    ensures { λ r. ⌜ r ≡ shownOf mark v ⌝ }
+{
+    if mark < 128 {
+        return v;
+    }
+    let w = mark - 128;
+    if v < 1u64 << (w - 1) {
+        return v;
+    }
+    v + ((1u64 << 32) - (1u64 << w))
+}
+
+// The low bits of a number, as many as a field has.
+pub fn low_of(mark: u8, x: u64) -> u64
+    requires { ⌜ T (markOk mark) ⌝ }
+    ensures { λ r. ⌜ r ≡ x % 2 ^ widthOf mark ⌝ }
+{
+    let w = width_of(mark);
+    if w == 64 {
+        return x;
+    }
+    x % (1u64 << w)
+}

@@ -1,0 +1,68 @@
+-- `write_each` meets its contract: an entry a turn.
+-- Assumes nothing.
+use native.Mathlib.Omega.{arith}
+use borrow.Author.Needs.{needs}
+use Prim.Native.Nat.{_-_, _≤_}
+use Rattle.format.specs.Tables.{times, ephemeris}
+use Rattle.write_ephemeris.specs.Rest.{ephemerisTo}
+use Rattle.write_runs.proofs.Runs.{Along, begin, turn, stop, ended}
+use Rattle.write_ephemeris.proofs.Each.{as-zero, left, left-all, left-next, left-end}
+use Rattle.write_ephemeris.proofs.write_each.Statement.{statement}
+use Rattle.write_ephemeris.proofs.write_each.Tie as tie
+
+abbrev Inv-loop : tie.InvT-loop
+Inv-loop body at accel count out₀ place here₀ there₀ i₀ out here there i = Along (λ k. times count (ephemeris accel) (k 0)) (left accel count) body at place out₀ here there 0 i out × (i ≤ count)
+
+abbrev μ-loop : tie.MeasureT-loop
+μ-loop body at accel count out₀ place here₀ there₀ i₀ out here there i = count - i
+
+loop-holds : tie.Need-loop-holds Inv-loop μ-loop
+loop-holds c = (begin (c .before .before .pre) (left-all (c .before .before .args .accel) (c .before .before .args .count)), omega arith)
+
+write-entry-requires : tie.Need-write-entry-requires Inv-loop μ-loop
+write-entry-requires c κs = c .before .before .loop .inv .0 .placed
+
+enum-known-step : tie.Need-enum-known-step Inv-loop μ-loop
+enum-known-step c = search needs
+
+enum-told : tie.Need-enum-told Inv-loop μ-loop
+enum-told c = search needs
+
+same-length : tie.Need-same-length Inv-loop μ-loop
+same-length c = omega (arith, c .before .before .before .before .before .before .before .loop .inv .0 .long)
+
+returns : tie.Need-returns Inv-loop μ-loop
+returns c = λ s. stop (ephemerisTo (c .before .before .before .before .before .before .before .before .before .before .args .accel)) (c .before .before .before .before .before .before .before .loop .inv .0) (λ e k. c .before .before .before .before .write-entry .ensures e k) (λ k. left-next (c .before .before .before .before .before .before .before .before .before .before .args .accel) (c .before .before .before .before .before .before .before .before .before .before .args .count) 0 (c .before .before .before .before .before .before .before .loop .i) k (c .before .before .before .before .before .before .loop-test .taken)) (c .enum-told .given .1) 0 (λ _. s) (λ _. s)
+
+add-i : tie.Need-add-i Inv-loop μ-loop
+add-i c = omega arith
+
+loop-less : tie.Need-loop-less Inv-loop μ-loop
+loop-less c = omega arith
+
+loop-again : tie.Need-loop-again Inv-loop μ-loop
+loop-again c = (as-zero (c .before .before .before .before .before .before .before .before .before .before .before .args .accel) (c .before .before .before .before .before .before .before .before .before .before .before .args .count) (turn (ephemerisTo (c .before .before .before .before .before .before .before .before .before .before .before .args .accel)) (c .before .before .before .before .before .before .before .before .loop .inv .0) (λ e k. c .before .before .before .before .before .write-entry .ensures e k) (λ k. left-next (c .before .before .before .before .before .before .before .before .before .before .before .args .accel) (c .before .before .before .before .before .before .before .before .before .before .before .args .count) 0 (c .before .before .before .before .before .before .before .before .loop .i) k (c .before .before .before .before .before .before .before .loop-test .taken)) (c .before .step .given .1)), omega arith)
+
+same-length-2 : tie.Need-same-length-2 Inv-loop μ-loop
+same-length-2 c = c .before .loop .inv .0 .long
+
+returns-2 : tie.Need-returns-2 Inv-loop μ-loop
+returns-2 c = λ s. record { to = ended (c .before .loop .inv .0) 0 (λ _. s) _ (left-end (c .before .before .before .before .args .accel) (c .before .before .before .before .args .count) 0 (c .before .loop .i) (λ _. s) (omega arith)) }
+
+pub write-each-spec : {M : Type 1} → statement M
+write-each-spec =
+    tie.close
+    (tie.spec
+    Inv-loop
+    μ-loop
+    loop-holds
+    write-entry-requires
+    enum-known-step
+    enum-told
+    same-length
+    returns
+    add-i
+    loop-less
+    loop-again
+    same-length-2
+    returns-2)

@@ -1,0 +1,307 @@
+// Table 4 written as a ledger: its header, and its satellites with metadata, ephemeris entries and covariance.
+ghost use mathlib.Core.Path.{_≡_};
+ghost use Prim.Native.Nat.{ℕ, _<_};
+ghost use Rattle.format.specs.Syntax.{Name, Syntax, end};
+ghost use Rattle.format.specs.Tables.{times, header, usable, metadata, ephemeris, ephemerides, position3};
+ghost use Rattle.write_runs.specs.Went.{Placed, Ran};
+ghost use Rattle.write_ephemeris.specs.Rest.{flagged, unflagged, ephemerisTo};
+use format::Refusal;
+use runs::Step;
+use write_runs::write_needed;
+use write_runs::write_run;
+
+const HEADER: [u8; 6] = [4, 4, 8, 7, 9, 32];
+
+const STAMP: [u8; 4] = [8, 7, 9, 32];
+
+const METADATA: [u8; 12] = [8, 7, 9, 32, 8, 7, 9, 32, 1, 1, 3, 3];
+
+const MOTION: [u8; 10] = [8, 7, 9, 32, 32, 32, 32, 32, 32, 32];
+
+const ACCELERATED: [u8; 13] = [8, 7, 9, 32, 32, 32, 32, 32, 32, 32, 32, 32, 32];
+
+const COVARIANCE: [u8; 25] = [
+    8,
+    7,
+    9,
+    32,
+    32,
+    32,
+    32,
+    32,
+    32,
+    32,
+    32,
+    32,
+    32,
+    32,
+    32,
+    32,
+    32,
+    32,
+    32,
+    32,
+    32,
+    32,
+    32,
+    32,
+    32,
+];
+
+const COUNT: [u8; 1] = [16];
+
+const SATELLITE: [u8; 3] = [24, 3, 1];
+
+const FLAG: [u8; 1] = [1];
+
+// Versions and creation date.
+pub fn write_header(body: &[u8], at: usize, out: &mut [u8], place: usize) -> Step
+    requires { ⌜ Placed (now body) at place ⌝ }
+    ensures { λ r. ⌜ Ran (now (body .entry)) 0 header at place (now (out .entry)) (λ _. end) (now (out .exit)) r ⌝ }
+{
+    let have = 8 * body.len() - at;
+    if have < 1 {
+        return Step::Refused(Refusal {
+            number: 2,
+            need: 1,
+            have,
+        });
+    }
+    write_needed(body, at, 15, 64, &HEADER, out, place)
+}
+
+// A usable time, where its flag is set.
+pub fn write_usable(
+    body: &[u8],
+    at: usize,
+    number: u8,
+    flag: u64,
+    out: &mut [u8],
+    place: usize,
+) -> Step
+    requires { ⌜ Placed (now body) at place ⌝ }
+    ensures { λ r. ⌜ ((nm : Name) (s : Syntax) → Ran (now (body .entry)) 0 (usable number nm flag s) at place (now (out .entry)) (λ _. s) (now (out .exit)) r) ⌝ }
+{
+    if flag == 1 {
+        return write_needed(body, at, number, 56, &STAMP, out, place);
+    }
+    Step::Done { at, place, last: 0 }
+}
+
+// The metadata, and the usable times behind them.
+pub fn write_metadata(
+    body: &[u8],
+    at: usize,
+    start: u64,
+    stop: u64,
+    out: &mut [u8],
+    place: usize,
+) -> Step
+    requires { ⌜ Placed (now body) at place ⌝ }
+    ensures { λ r. ⌜ ((s : Syntax) → Ran (now (body .entry)) 0 (metadata start stop s) at place (now (out .entry)) (λ _. s) (now (out .exit)) r) ⌝ }
+{
+    let fixed = write_needed(body, at, 16, 120, &METADATA, out, place);
+    let Step::Done {
+        at: a1,
+        place: p1,
+        last: _,
+    } = fixed
+    else {
+        return fixed;
+    };
+    let from = write_usable(body, a1, 17, start, out, p1);
+    let Step::Done {
+        at: a2,
+        place: p2,
+        last: _,
+    } = from
+    else {
+        return from;
+    };
+    write_usable(body, a2, 18, stop, out, p2)
+}
+
+// One ephemeris entry, tested by itself.
+pub fn write_entry(body: &[u8], at: usize, accel: u64, out: &mut [u8], place: usize) -> Step
+    requires { ⌜ Placed (now body) at place ⌝ }
+    ensures { λ r. ⌜ ((e : ℕ) (k : ℕ → Syntax) → Ran (now (body .entry)) e (ephemerisTo accel k) at place (now (out .entry)) k (now (out .exit)) r) ⌝ }
+{
+    if accel == 1 {
+        return write_needed(body, at, 19, 344, &ACCELERATED, out, place);
+    }
+    write_needed(body, at, 19, 248, &MOTION, out, place)
+}
+
+// So many ephemeris entries.
+pub fn write_each(
+    body: &[u8],
+    at: usize,
+    accel: u64,
+    count: u64,
+    out: &mut [u8],
+    place: usize,
+) -> Step
+    requires { ⌜ Placed (now body) at place ⌝ }
+    ensures { λ r. ⌜ ((s : Syntax) → Ran (now (body .entry)) 0 (times count (ephemeris accel) s) at place (now (out .entry)) (λ _. s) (now (out .exit)) r) ⌝ }
+{
+    let mut here = at;
+    let mut there = place;
+    let mut i: u64 = 0;
+    while i < count {
+        let step = write_entry(body, here, accel, out, there);
+        let Step::Done {
+            at: a,
+            place: p,
+            last: _,
+        } = step
+        else {
+            return step;
+        };
+        here = a;
+        there = p;
+        i += 1;
+    }
+    Step::Done {
+        at: here,
+        place: there,
+        last: 0,
+    }
+}
+
+// The ephemeris entries behind their count, and the covariance where its flag is set.
+pub fn write_ephemerides(
+    body: &[u8],
+    at: usize,
+    accel: u64,
+    cov: u64,
+    out: &mut [u8],
+    place: usize,
+) -> Step
+    requires { ⌜ Placed (now body) at place ⌝ }
+    ensures { λ r. ⌜ Ran (now (body .entry)) 0 (ephemerides accel cov) at place (now (out .entry)) (λ _. end) (now (out .exit)) r ⌝ }
+{
+    let number = write_run(body, at, &COUNT, out, place);
+    let Step::Done {
+        at: a1,
+        place: p1,
+        last: count,
+    } = number
+    else {
+        return number;
+    };
+    let each = write_each(body, a1, accel, count, out, p1);
+    let Step::Done {
+        at: a2,
+        place: p2,
+        last: _,
+    } = each
+    else {
+        return each;
+    };
+    if cov == 1 {
+        return write_needed(body, a2, 20, 728, &COVARIANCE, out, p2);
+    }
+    Step::Done {
+        at: a2,
+        place: p2,
+        last: 0,
+    }
+}
+
+// What follows a satellite's flags.
+pub fn write_flagged(
+    body: &[u8],
+    at: usize,
+    meta: u64,
+    start: u64,
+    stop: u64,
+    accel: u64,
+    cov: u64,
+    out: &mut [u8],
+    place: usize,
+) -> Step
+    requires { ⌜ Placed (now body) at place ⌝ }
+    ensures { λ r. ⌜ Ran (now (body .entry)) 0 (flagged meta start stop accel cov) at place (now (out .entry)) (λ _. end) (now (out .exit)) r ⌝ }
+{
+    if meta == 1 {
+        let known = write_metadata(body, at, start, stop, out, place);
+        let Step::Done {
+            at: a,
+            place: p,
+            last: _,
+        } = known
+        else {
+            return known;
+        };
+        return write_ephemerides(body, a, accel, cov, out, p);
+    }
+    write_ephemerides(body, at, accel, cov, out, place)
+}
+
+// What follows a satellite's first two flags.
+pub fn write_unflagged(
+    body: &[u8],
+    at: usize,
+    meta: u64,
+    start: u64,
+    out: &mut [u8],
+    place: usize,
+) -> Step
+    requires { ⌜ Placed (now body) at place ⌝ }
+    ensures { λ r. ⌜ Ran (now (body .entry)) 0 (unflagged meta start) at place (now (out .entry)) (λ _. end) (now (out .exit)) r ⌝ }
+{
+    let third = write_run(body, at, &FLAG, out, place);
+    let Step::Done {
+        at: a1,
+        place: p1,
+        last: stop,
+    } = third
+    else {
+        return third;
+    };
+    let fourth = write_run(body, a1, &FLAG, out, p1);
+    let Step::Done {
+        at: a2,
+        place: p2,
+        last: accel,
+    } = fourth
+    else {
+        return fourth;
+    };
+    let fifth = write_run(body, a2, &FLAG, out, p2);
+    let Step::Done {
+        at: a3,
+        place: p3,
+        last: cov,
+    } = fifth
+    else {
+        return fifth;
+    };
+    write_flagged(body, a3, meta, start, stop, accel, cov, out, p3)
+}
+
+// A satellite.
+pub fn write_position3(body: &[u8], at: usize, out: &mut [u8], place: usize) -> Step
+    requires { ⌜ Placed (now body) at place ⌝ }
+    ensures { λ r. ⌜ Ran (now (body .entry)) 0 position3 at place (now (out .entry)) (λ _. end) (now (out .exit)) r ⌝ }
+{
+    let first = write_run(body, at, &SATELLITE, out, place);
+    let Step::Done {
+        at: a1,
+        place: p1,
+        last: meta,
+    } = first
+    else {
+        return first;
+    };
+    let second = write_run(body, a1, &FLAG, out, p1);
+    let Step::Done {
+        at: a2,
+        place: p2,
+        last: start,
+    } = second
+    else {
+        return second;
+    };
+    write_unflagged(body, a2, meta, start, out, p2)
+}

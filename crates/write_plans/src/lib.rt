@@ -1,0 +1,237 @@
+// Id 3: a beam hopping time plan of a body, written as a ledger has it.
+ghost use mathlib.Core.Path.{_≡_};
+ghost use mathlib.Core.Bool.{cond};
+ghost use Prim.Native.Nat.{ℕ, _+_, _-_, _*_, _%_, _≤_, _<_};
+ghost use lib.Dec.{leb};
+ghost use lib.ListN.{length};
+ghost use Rattle.format.specs.Digits.{splice};
+ghost use Rattle.format.specs.Syntax.{Name, Syntax, end, slots, plan, raw};
+ghost use Rattle.format.specs.Body.{wholes};
+ghost use Rattle.format.specs.Tables.{bitmap, mode, hopping, beamhopping};
+ghost use Rattle.write_runs.specs.Went.{Placed, Ran};
+ghost use Rattle.write_plans.specs.Ragged.{Ragged};
+ghost use Rattle.write_plans.specs.Slots.{packedBits};
+use bits::value_at;
+use format::Refusal;
+use runs::Step;
+use write_runs::put;
+use write_runs::write_needed;
+use write_runs::write_run;
+
+// A plan's first fields, those in front of its clocks, and the clocks by twos and by fours.
+const PLAN: [u8; 2] = [32, 4];
+
+const MODE: [u8; 2] = [6, 2];
+
+const CLOCKS: [u8; 6] = [33, 6, 9, 33, 6, 9];
+
+const GRID: [u8; 12] = [33, 6, 9, 33, 6, 9, 33, 6, 9, 33, 6, 9];
+
+// Either number of slots: the size of the map, the current slot.
+const SLOT: [u8; 2] = [1, 15];
+
+// The smaller of two numbers.
+fn lesser(a: usize, b: usize) -> usize
+    ensures { λ r. ⌜ (r ≤ a) × (r ≤ b) × (a ≤ b → r ≡ a) × (b ≤ a → r ≡ b) ⌝ }
+{
+    if a < b {
+        return a;
+    }
+    b
+}
+
+// m bits of a body as bytes, the last one filled up with zeros, where there is room for them.
+fn write_bits(body: &[u8], at: usize, m: usize, out: &mut [u8], place: usize)
+    requires { ⌜ (length (now body) ≤ 4096) × (at + m ≤ 8 * length (now body)) × (place ≤ 40000) ⌝ }
+    ensures { λ _. ⌜ (place + wholes m ≤ length (now (out .entry)) → now (out .exit) ≡ splice (now (out .entry)) place (packedBits (now (body .entry)) at m)) ⌝ }
+{
+    let whole = (m + 7) / 8;
+    let mut i: usize = 0;
+    while i < whole {
+        let width = lesser(m - 8 * i, 8);
+        let v = value_at(body, at + 8 * i, width);
+        put(out, place + i, 1, v << (8 - width));
+        i += 1;
+    }
+}
+
+// Slots: so many single bits, and padding to the byte.
+fn write_slots(body: &[u8], at: usize, m: usize, out: &mut [u8], place: usize) -> Step
+    requires { ⌜ Placed (now body) at place ⌝ }
+    requires { ⌜ (at % 8 ≡ 0) × (m < 32768) ⌝ }
+    ensures { λ r. ⌜ ((e : ℕ) (nm : Name) (s : Syntax) → Ran (now (body .entry)) e (slots nm 12 m s) at place (now (out .entry)) (λ _. s) (now (out .exit)) r) ⌝ }
+{
+    let have = 8 * body.len() - at;
+    if have < m {
+        return Step::Refused(Refusal {
+            number: 12,
+            need: m,
+            have,
+        });
+    }
+    write_bits(body, at, m, out, place);
+    let whole = (m + 7) / 8;
+    Step::Done {
+        at: at + 8 * whole,
+        place: place + whole,
+        last: 0,
+    }
+}
+
+// The bits of a plan's raw bytes: those up to its end, or none where that is past the data.
+fn raw_bits(at: usize, stop: usize, n: usize) -> usize
+    ensures { λ r. ⌜ r ≡ cond (leb stop n) (stop - at) 0 ⌝ }
+{
+    if n < stop {
+        return 0;
+    }
+    if stop < at {
+        return 0;
+    }
+    stop - at
+}
+
+// Raw bytes, behind their length.
+fn write_raw(body: &[u8], at: usize, stop: usize, out: &mut [u8], place: usize) -> Step
+    requires { ⌜ Placed (now body) at place ⌝ }
+    requires { ⌜ (at % 8 ≡ 0) × (stop % 8 ≡ 0) ⌝ }
+    ensures { λ r. ⌜ ((nm : Name) → Ragged (now (body .entry)) stop (raw nm) at place (now (out .entry)) (now (out .exit)) r) ⌝ }
+{
+    let m = raw_bits(at, stop, 8 * body.len());
+    put(out, place, 2, (m / 8) as u64);
+    write_bits(body, at, m, out, place + 2);
+    Step::Done {
+        at: at + m,
+        place: place + 2 + m / 8,
+        last: 0,
+    }
+}
+
+// Mode 1: a map of slots.
+fn write_bitmap(body: &[u8], at: usize, out: &mut [u8], place: usize) -> Step
+    requires { ⌜ Placed (now body) at place ⌝ }
+    requires { ⌜ at % 8 ≡ 0 ⌝ }
+    ensures { λ r. ⌜ ((e : ℕ) → Ran (now (body .entry)) e bitmap at place (now (out .entry)) (λ _. end) (now (out .exit)) r) ⌝ }
+{
+    let size = write_needed(body, at, 11, 32, &SLOT, out, place);
+    let Step::Done {
+        at: a1,
+        place: p1,
+        last: slots,
+    } = size
+    else {
+        return size;
+    };
+    let current = write_run(body, a1, &SLOT, out, p1);
+    let Step::Done {
+        at: a2,
+        place: p2,
+        last: _,
+    } = current
+    else {
+        return current;
+    };
+    write_slots(body, a2, slots as usize, out, p2)
+}
+
+// The fields of a plan's mode, by its number.
+fn write_mode(body: &[u8], at: usize, stop: usize, kind: u64, out: &mut [u8], place: usize) -> Step
+    requires { ⌜ Placed (now body) at place ⌝ }
+    requires { ⌜ (at % 8 ≡ 0) × (stop % 8 ≡ 0) ⌝ }
+    ensures { λ r. ⌜ Ragged (now (body .entry)) stop (mode kind) at place (now (out .entry)) (now (out .exit)) r ⌝ }
+{
+    if kind == 0 {
+        return write_needed(body, at, 10, 96, &CLOCKS, out, place);
+    }
+    if kind == 1 {
+        return write_bitmap(body, at, out, place);
+    }
+    if kind == 2 {
+        return write_needed(body, at, 13, 192, &GRID, out, place);
+    }
+    write_raw(body, at, stop, out, place)
+}
+
+// What stands within a plan that ends at a place.
+fn write_hopping(body: &[u8], at: usize, stop: usize, out: &mut [u8], place: usize) -> Step
+    requires { ⌜ Placed (now body) at place ⌝ }
+    requires { ⌜ (at % 8 ≡ 0) × (stop % 8 ≡ 0) ⌝ }
+    ensures { λ r. ⌜ Ran (now (body .entry)) stop hopping at place (now (out .entry)) (λ _. end) (now (out .exit)) r ⌝ }
+{
+    let head = write_run(body, at, &MODE, out, place);
+    let Step::Done {
+        at: a1,
+        place: p1,
+        last: kind,
+    } = head
+    else {
+        return head;
+    };
+    let clocks = write_run(body, a1, &CLOCKS, out, p1);
+    let Step::Done {
+        at: a2,
+        place: p2,
+        last: _,
+    } = clocks
+    else {
+        return clocks;
+    };
+    write_mode(body, a2, stop, kind, out, p2)
+}
+
+// A plan's length and what it is the length of. The next place is the plan's end, or the data's if that comes first.
+fn write_ended(body: &[u8], at: usize, out: &mut [u8], place: usize) -> Step
+    requires { ⌜ Placed (now body) at place ⌝ }
+    requires { ⌜ (at + 12) % 8 ≡ 0 ⌝ }
+    ensures { λ r. ⌜ Ran (now (body .entry)) 0 (plan "plan_length" hopping) at place (now (out .entry)) (λ _. end) (now (out .exit)) r ⌝ }
+{
+    let have = 8 * body.len();
+    let inside = at + 12;
+    if have < inside {
+        return Step::Refused(Refusal {
+            number: 1,
+            need: inside,
+            have,
+        });
+    }
+    let stop = inside + 8 * value_at(body, at, 12) as usize;
+    let hopping = write_hopping(body, inside, stop, out, place);
+    let Step::Done {
+        at: a,
+        place: p,
+        last,
+    } = hopping
+    else {
+        return hopping;
+    };
+    if stop < a {
+        return Step::Refused(Refusal {
+            number: 14,
+            need: a - stop,
+            have: 0,
+        });
+    }
+    Step::Done {
+        at: lesser(stop, have),
+        place: p,
+        last,
+    }
+}
+
+// A plan: its fields but its length, which the others decide.
+pub fn write_plan(body: &[u8], at: usize, out: &mut [u8], place: usize) -> Step
+    requires { ⌜ Placed (now body) at place ⌝ }
+    requires { ⌜ at % 8 ≡ 0 ⌝ }
+    ensures { λ r. ⌜ Ran (now (body .entry)) 0 beamhopping at place (now (out .entry)) (λ _. end) (now (out .exit)) r ⌝ }
+{
+    let head = write_run(body, at, &PLAN, out, place);
+    let Step::Done {
+        at: a,
+        place: p,
+        last: _,
+    } = head
+    else {
+        return head;
+    };
+    write_ended(body, a, out, p)
+}

@@ -1,0 +1,2 @@
+pub mod WentLaws
+pub mod Runs

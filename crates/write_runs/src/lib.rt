@@ -1,0 +1,168 @@
+// Fields of a body, gone through by their marks and written as a ledger on the way.
+// Where the buffer is too short it may keep anything, and the answer is the same: so the size is asked for with an empty one.
+ghost use mathlib.Core.Path.{_≡_};
+ghost use mathlib.Core.List.{List, [], _∷_};
+ghost use Prim.Native.Nat.{ℕ, _+_, _-_, _*_, _^_, _≤_, _<_};
+ghost use lib.Dec.{T};
+ghost use lib.ListN.{length, getD};
+ghost use Rattle.format.specs.Digits.{digits, splice};
+ghost use Rattle.format.specs.Syntax.{Name, Syntax, need};
+ghost use Rattle.format.specs.Tables.{times};
+ghost use Rattle.runs.specs.Lines.{widthOf, markOk, marksOk, line, run, runOf};
+ghost use Rattle.runs.specs.Steps.{lastOf};
+ghost use Rattle.write_runs.specs.Went.{Placed, Ran, Moved};
+use bits::put_be;
+use bits::value_at;
+use format::Refusal;
+use runs::Step;
+use runs::shown_of;
+use runs::size_of;
+use runs::width_of;
+
+// Stores the k low bytes of v at a place where there is room for them.
+pub fn put(out: &mut [u8], place: usize, k: usize, v: u64)
+    requires { ⌜ (place ≤ 65536) × (k ≤ 8) ⌝ }
+    ensures { λ _. ⌜ (place + k ≤ length (now (out .entry)) → now (out .exit) ≡ splice (now (out .entry)) place (digits 256 k v)) ⌝ }
+{
+    if place + k <= out.len() {
+        put_be(out, place, k, v);
+    }
+}
+
+// One field.
+pub fn write_line(body: &[u8], at: usize, mark: u8, out: &mut [u8], place: usize) -> Step
+    requires { ⌜ Placed (now body) at place ⌝ }
+    requires { ⌜ T (markOk mark) ⌝ }
+    ensures { λ r. ⌜ ((e : ℕ) (nm : Name) (k : ℕ → Syntax) → Ran (now (body .entry)) e (line nm mark k) at place (now (out .entry)) k (now (out .exit)) r) ⌝ }
+    ensures { λ r. ⌜ lastOf r < 2 ^ widthOf mark ⌝ }
+    ensures { λ r. ⌜ Moved at place (mark ∷ []) r ⌝ }
+{
+    let have = 8 * body.len();
+    let width = width_of(mark);
+    let need = at + width;
+    if have < need {
+        return Step::Refused(Refusal {
+            number: 1,
+            need,
+            have,
+        });
+    }
+    let v = value_at(body, at, width);
+    let size = size_of(mark);
+    put(out, place, size, shown_of(mark, v));
+    Step::Done {
+        at: need,
+        place: place + size,
+        last: v,
+    }
+}
+
+// A run of fields.
+pub fn write_run(body: &[u8], at: usize, marks: &[u8], out: &mut [u8], place: usize) -> Step
+    requires { ⌜ Placed (now body) at place ⌝ }
+    requires { ⌜ T (marksOk (now marks)) ⌝ }
+    ensures { λ r. ⌜ ((e : ℕ) (nms : List Name) (k : ℕ → Syntax) → Ran (now (body .entry)) e (run nms 0 (now (marks .entry)) k) at place (now (out .entry)) k (now (out .exit)) r) ⌝ }
+    ensures { λ r. ⌜ lastOf r < 2 ^ widthOf (getD (now (marks .entry)) (length (now (marks .entry)) - 1) 0) ⌝ }
+    ensures { λ r. ⌜ Moved at place (now (marks .entry)) r ⌝ }
+{
+    let mut here = at;
+    let mut there = place;
+    let mut value: u64 = 0;
+    let mut i = 0;
+    while i < marks.len() {
+        let step = write_line(body, here, marks[i], out, there);
+        let Step::Done {
+            at: a,
+            place: p,
+            last,
+        } = step
+        else {
+            return step;
+        };
+        here = a;
+        there = p;
+        value = last;
+        i += 1;
+    }
+    Step::Done {
+        at: here,
+        place: there,
+        last: value,
+    }
+}
+
+// A run of fields, for which so many bits must remain.
+pub fn write_needed(
+    body: &[u8],
+    at: usize,
+    number: u8,
+    bits: usize,
+    marks: &[u8],
+    out: &mut [u8],
+    place: usize,
+) -> Step
+    requires { ⌜ Placed (now body) at place ⌝ }
+    requires { ⌜ T (marksOk (now marks)) ⌝ }
+    ensures { λ r. ⌜ ((e : ℕ) (nms : List Name) (k : ℕ → Syntax) → Ran (now (body .entry)) e (need number bits (run nms 0 (now (marks .entry)) k)) at place (now (out .entry)) k (now (out .exit)) r) ⌝ }
+    ensures { λ r. ⌜ lastOf r < 2 ^ widthOf (getD (now (marks .entry)) (length (now (marks .entry)) - 1) 0) ⌝ }
+    ensures { λ r. ⌜ Moved at place (now (marks .entry)) r ⌝ }
+{
+    let have = 8 * body.len() - at;
+    if have < bits {
+        return Step::Refused(Refusal {
+            number,
+            need: bits,
+            have,
+        });
+    }
+    write_run(body, at, marks, out, place)
+}
+
+// The same run count times, for which so many bits each must remain.
+pub fn write_counted(
+    body: &[u8],
+    at: usize,
+    number: u8,
+    bits: usize,
+    marks: &[u8],
+    count: u64,
+    out: &mut [u8],
+    place: usize,
+) -> Step
+    requires { ⌜ Placed (now body) at place ⌝ }
+    requires { ⌜ T (marksOk (now marks)) ⌝ }
+    requires { ⌜ (count < 65536) × (bits < 65536) ⌝ }
+    ensures { λ r. ⌜ ((e : ℕ) (nms : List Name) (s : Syntax) → Ran (now (body .entry)) e (need number (count * bits) (times count (runOf nms (now (marks .entry))) s)) at place (now (out .entry)) (λ _. s) (now (out .exit)) r) ⌝ }
+{
+    let have = 8 * body.len() - at;
+    let n = count as usize;
+    if have < n * bits {
+        return Step::Refused(Refusal {
+            number,
+            need: n * bits,
+            have,
+        });
+    }
+    let mut here = at;
+    let mut there = place;
+    let mut i = 0;
+    while i < n {
+        let step = write_run(body, here, marks, out, there);
+        let Step::Done {
+            at: a,
+            place: p,
+            last: _,
+        } = step
+        else {
+            return step;
+        };
+        here = a;
+        there = p;
+        i += 1;
+    }
+    Step::Done {
+        at: here,
+        place: there,
+        last: 0,
+    }
+}
