@@ -89,14 +89,17 @@ fn plain_line(case: &[u8]) -> String {
     }
 }
 
-/// A heading with the id and the body's length, the fields, and an empty line.
+/// A heading with the id and the body's length, the fields, the entries' ids, and an empty line.
 fn listing<W: Write>(out: &mut W, case: &[u8]) -> io::Result<()> {
     let Some((&id, body)) = case.split_first() else {
         return writeln!(out, "case no input\n");
     };
     writeln!(out, "case id {id} bytes {}", body.len())?;
     match helper::read(id, body) {
-        Ok(sat) => writeln!(out, "{}", helper::fields(&sat, body).listing()),
+        Ok(sat) => {
+            let ids: String = helper::ids(&sat).iter().map(|id| format!(" {id}")).collect();
+            writeln!(out, "{}ids{ids}\n", helper::fields(&sat, body).listing())
+        }
         Err(refusal) => writeln!(out, "{refusal}\n"),
     }
 }

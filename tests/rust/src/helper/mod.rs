@@ -7,10 +7,12 @@ mod id1;
 mod id2;
 mod id3;
 mod id4;
+mod ids;
 mod plain;
 mod refusal;
 
 pub use field::{Field, List, Value};
+pub use ids::ids;
 pub use plain::plain_body;
 pub use refusal::Refusal;
 

@@ -1,0 +1,167 @@
+// A case: a table id and a body, listed with all that the library reads of it.
+use crate::associations;
+use crate::fragments;
+use crate::orbits;
+use crate::plans;
+use crate::satellites;
+use crate::text::Path;
+use crate::text::bytes_field;
+use crate::text::bytes_of;
+use crate::text::element;
+use crate::text::field;
+use crate::text::put;
+use crate::text::put_number;
+use crate::text::put_text;
+use crate::text::root;
+use crate::text::under;
+use entry_ids::IdsAnswer;
+use entry_ids::entry_ids;
+use format::Refusal;
+use sat::BodyHeader;
+use sat::CountAnswer;
+use sat::EntryAnswer;
+use sat::EntryRead;
+use sat::SatEntry;
+use sat::entry_at;
+use sat::entry_count;
+use sat::header;
+
+// The heading, the fields or the refusal, and an empty line.
+pub fn show_case(out: &mut [u8; 8192], used: usize, id: u8, body: &[u8]) -> usize {
+    let used = put_text(out, used, b"case id ");
+    let used = put_number(out, used, id as u64);
+    let used = put_text(out, used, b" bytes ");
+    let used = put_number(out, used, body.len() as u64);
+    let used = put(out, used, b'\n');
+    let used = show_body(out, used, id, body);
+    put(out, used, b'\n')
+}
+
+fn show_body(out: &mut [u8; 8192], used: usize, id: u8, body: &[u8]) -> usize {
+    let counted = entry_count(id, body);
+    match counted {
+        CountAnswer::Entries(count) => {
+            let used = show_header(out, used, id, body);
+            let used = show_count(out, used, id, count);
+            let used = show_entries(out, used, id, body, count);
+            show_ids(out, used, id, body)
+        }
+        CountAnswer::Refused(f) => show_refusal(out, used, f),
+    }
+}
+
+fn show_refusal(out: &mut [u8; 8192], used: usize, f: Refusal) -> usize {
+    let used = put_text(out, used, b"R ");
+    let used = put_number(out, used, f.number as u64);
+    let used = put(out, used, b' ');
+    let used = put_number(out, used, f.need as u64);
+    let used = put(out, used, b' ');
+    let used = put_number(out, used, f.have as u64);
+    put(out, used, b'\n')
+}
+
+// The header, which a body has under id 4 alone.
+fn show_header(out: &mut [u8; 8192], used: usize, id: u8, body: &[u8]) -> usize {
+    let found = header(id, body);
+    match found {
+        BodyHeader::Header(h) => orbits::show_header(out, used, root(), h),
+        BodyHeader::None => used,
+        BodyHeader::Refused(f) => show_refusal(out, used, f),
+    }
+}
+
+// The path of the list of entries; the root for a body that is no list.
+fn list_path(id: u8) -> Path {
+    if id == 0 {
+        return under(root(), b"satellites");
+    }
+    if id == 1 {
+        return under(root(), b"fragments");
+    }
+    if id == 3 {
+        return under(root(), b"plans");
+    }
+    if id == 4 {
+        return under(root(), b"satellites");
+    }
+    root()
+}
+
+fn show_count(out: &mut [u8; 8192], used: usize, id: u8, count: usize) -> usize {
+    let at = list_path(id);
+    if at.length == 0 {
+        return used;
+    }
+    field(out, used, at, b"len", count as u64)
+}
+
+fn show_entries(out: &mut [u8; 8192], used: usize, id: u8, body: &[u8], count: usize) -> usize {
+    let mut used = used;
+    for i in 0..count {
+        used = show_read(out, used, entry_path(id, i), body, entry_at(id, body, i));
+    }
+    used
+}
+
+fn entry_path(id: u8, index: usize) -> Path {
+    let at = list_path(id);
+    if at.length == 0 {
+        return at;
+    }
+    element(at, index)
+}
+
+fn show_read(out: &mut [u8; 8192], used: usize, at: Path, body: &[u8], read: EntryRead) -> usize {
+    let elements = read.covariance_elements;
+    let answer = read.answer;
+    match answer {
+        EntryAnswer::Entry(entry) => show_entry(out, used, at, body, entry, elements),
+        EntryAnswer::None => used,
+        EntryAnswer::Refused(f) => show_refusal(out, used, f),
+    }
+}
+
+fn show_entry(
+    out: &mut [u8; 8192],
+    used: usize,
+    at: Path,
+    body: &[u8],
+    entry: SatEntry,
+    elements: [u32; 21],
+) -> usize {
+    match entry {
+        SatEntry::PositionV2(s) => satellites::show(out, used, at, s),
+        SatEntry::CellFragment(f) => fragments::show(out, used, at, body, f),
+        SatEntry::TimeAssociation(a) => associations::show(out, used, at, a),
+        SatEntry::BeamhoppingTimePlan(p) => plans::show(out, used, at, body, p),
+        SatEntry::PositionV3(s) => orbits::show(out, used, at, body, s, elements),
+        SatEntry::Raw(part) => { bytes_field(out, used, under(at, b"Raw"), bytes_of(body, part)) }
+    }
+}
+
+// The different ids of the entries on one line. A body has at most 1,024 entries.
+fn show_ids(out: &mut [u8; 8192], used: usize, id: u8, body: &[u8]) -> usize {
+    let mut ids = [0u32; 1024];
+    let found = entry_ids(id, body, &mut ids);
+    let IdsAnswer::Ids(count) = found else {
+        return used;
+    };
+    let used = put_text(out, used, b"ids");
+    let used = put_ids(out, used, &ids, count);
+    put(out, used, b'\n')
+}
+
+fn put_ids(out: &mut [u8; 8192], used: usize, ids: &[u32; 1024], count: usize) -> usize {
+    let mut used = used;
+    for i in 0..count {
+        if i < 1024 {
+            used = put_id(out, used, ids[i]);
+        }
+    }
+    used
+}
+
+fn put_id(out: &mut [u8; 8192], used: usize, id: u32) -> usize {
+    let used = put(out, used, b' ');
+    put_number(out, used, id as u64)
+}
