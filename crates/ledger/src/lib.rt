@@ -1,0 +1,215 @@
+// The ledger's writer and reader, for C. The call that fills a buffer returns 0 or the refusal's number; the further calls take
+// the same bytes and the buffer's length, write nothing, and give the answer's other numbers, 0 where there is none.
+ghost use mathlib.Core.Path.{_≡_};
+ghost use lib.ListN.{length};
+ghost use Rattle.format.specs.Calls.{numberOf, needOf, haveOf, tableIdOf, lengthOf, writeAnswer, writeLeft, readAnswer, readLeft};
+use format::Answer;
+use format::Refusal;
+use ledger_reader::Measure;
+use ledger_reader::ledger_measure;
+use ledger_reader::ledger_read;
+use ledger_writer::LedgerSize;
+use ledger_writer::ledger_size;
+use ledger_writer::ledger_write;
+
+// The refusal's number, or 0.
+fn number_of(answer: Answer) -> u32
+    ensures { λ r. ⌜ r ≡ numberOf answer ⌝ }
+{
+    match answer {
+        Answer::Done {
+            table_id: _,
+            length: _,
+        } => 0,
+        Answer::Refused(f) => f.number as u32,
+    }
+}
+
+// What the refusal asks for, or 0.
+fn need_of(answer: Answer) -> usize
+    ensures { λ r. ⌜ r ≡ needOf answer ⌝ }
+{
+    match answer {
+        Answer::Done {
+            table_id: _,
+            length: _,
+        } => 0,
+        Answer::Refused(f) => f.need,
+    }
+}
+
+// What there was in place of that, or 0.
+fn have_of(answer: Answer) -> usize
+    ensures { λ r. ⌜ r ≡ haveOf answer ⌝ }
+{
+    match answer {
+        Answer::Done {
+            table_id: _,
+            length: _,
+        } => 0,
+        Answer::Refused(f) => f.have,
+    }
+}
+
+// The table id, or 0 after a refusal.
+fn table_id_of(answer: Answer) -> u8
+    ensures { λ r. ⌜ r ≡ tableIdOf answer ⌝ }
+{
+    match answer {
+        Answer::Done {
+            table_id,
+            length: _,
+        } => table_id,
+        Answer::Refused(_) => 0,
+    }
+}
+
+// The result's length, or 0 after a refusal.
+fn length_of(answer: Answer) -> usize
+    ensures { λ r. ⌜ r ≡ lengthOf answer ⌝ }
+{
+    match answer {
+        Answer::Done {
+            table_id: _,
+            length,
+        } => length,
+        Answer::Refused(_) => 0usize,
+    }
+}
+
+// What the writer answers with a buffer of so many bytes.
+fn write_answer(table_id: u8, body: &[u8], room: usize) -> Answer
+    ensures { λ r. ⌜ r ≡ writeAnswer «table_id» (now (body .entry)) room ⌝ }
+{
+    match ledger_size(table_id, body) {
+        LedgerSize::Refused(f) => Answer::Refused(f),
+        LedgerSize::Size(size) => {
+            if room < size {
+                return Answer::Refused(Refusal {
+                    number: 22,
+                    need: size,
+                    have: room,
+                });
+            }
+            Answer::Done {
+                table_id,
+                length: size,
+            }
+        }
+    }
+}
+
+// What the reader answers with a buffer of so many bytes.
+fn read_answer(ledger: &[u8], room: usize) -> Answer
+    ensures { λ r. ⌜ r ≡ readAnswer (now (ledger .entry)) room ⌝ }
+{
+    match ledger_measure(ledger) {
+        Measure::Refused(f) => Answer::Refused(f),
+        Measure::Size {
+            table_id,
+            length: size,
+        } => {
+            if room < size {
+                return Answer::Refused(Refusal {
+                    number: 22,
+                    need: size,
+                    have: room,
+                });
+            }
+            Answer::Done {
+                table_id,
+                length: size,
+            }
+        }
+    }
+}
+
+// The ledger of a body, at the buffer's start; after a refusal the buffer is as it was.
+#[no_mangle]
+pub extern "C" fn sat_ledger_write(table_id: u8, body: &[u8], out: &mut [u8]) -> u32
+    ensures { λ r. ⌜ (r ≡ numberOf (writeAnswer «table_id» (now (body .entry)) (length (now (out .entry))))) × (now (out .exit) ≡ writeLeft «table_id» (now (body .entry)) (now (out .entry))) ⌝ }
+{
+    let answer = ledger_write(table_id, body, out);
+    number_of(answer)
+}
+
+// The first value of the writer's refusal.
+#[no_mangle]
+pub extern "C" fn sat_ledger_write_need(table_id: u8, body: &[u8], out_len: usize) -> usize
+    ensures { λ r. ⌜ r ≡ needOf (writeAnswer «table_id» (now (body .entry)) «out_len») ⌝ }
+{
+    let answer = write_answer(table_id, body, out_len);
+    need_of(answer)
+}
+
+// The second value of the writer's refusal.
+#[no_mangle]
+pub extern "C" fn sat_ledger_write_have(table_id: u8, body: &[u8], out_len: usize) -> usize
+    ensures { λ r. ⌜ r ≡ haveOf (writeAnswer «table_id» (now (body .entry)) «out_len») ⌝ }
+{
+    let answer = write_answer(table_id, body, out_len);
+    have_of(answer)
+}
+
+// The table id in the ledger that the writer leaves.
+#[no_mangle]
+pub extern "C" fn sat_ledger_write_table_id(table_id: u8, body: &[u8], out_len: usize) -> u8
+    ensures { λ r. ⌜ r ≡ tableIdOf (writeAnswer «table_id» (now (body .entry)) «out_len») ⌝ }
+{
+    let answer = write_answer(table_id, body, out_len);
+    table_id_of(answer)
+}
+
+// The length of the ledger that the writer leaves.
+#[no_mangle]
+pub extern "C" fn sat_ledger_write_length(table_id: u8, body: &[u8], out_len: usize) -> usize
+    ensures { λ r. ⌜ r ≡ lengthOf (writeAnswer «table_id» (now (body .entry)) «out_len») ⌝ }
+{
+    let answer = write_answer(table_id, body, out_len);
+    length_of(answer)
+}
+
+// The plain body of a ledger, at the buffer's start; after a refusal the buffer is as it was.
+#[no_mangle]
+pub extern "C" fn sat_ledger_read(ledger: &[u8], out: &mut [u8]) -> u32
+    ensures { λ r. ⌜ (r ≡ numberOf (readAnswer (now (ledger .entry)) (length (now (out .entry))))) × (now (out .exit) ≡ readLeft (now (ledger .entry)) (now (out .entry))) ⌝ }
+{
+    let answer = ledger_read(ledger, out);
+    number_of(answer)
+}
+
+// The first value of the reader's refusal.
+#[no_mangle]
+pub extern "C" fn sat_ledger_read_need(ledger: &[u8], out_len: usize) -> usize
+    ensures { λ r. ⌜ r ≡ needOf (readAnswer (now (ledger .entry)) «out_len») ⌝ }
+{
+    let answer = read_answer(ledger, out_len);
+    need_of(answer)
+}
+
+// The second value of the reader's refusal.
+#[no_mangle]
+pub extern "C" fn sat_ledger_read_have(ledger: &[u8], out_len: usize) -> usize
+    ensures { λ r. ⌜ r ≡ haveOf (readAnswer (now (ledger .entry)) «out_len») ⌝ }
+{
+    let answer = read_answer(ledger, out_len);
+    have_of(answer)
+}
+
+// The table id of the body that the reader leaves.
+#[no_mangle]
+pub extern "C" fn sat_ledger_read_table_id(ledger: &[u8], out_len: usize) -> u8
+    ensures { λ r. ⌜ r ≡ tableIdOf (readAnswer (now (ledger .entry)) «out_len») ⌝ }
+{
+    let answer = read_answer(ledger, out_len);
+    table_id_of(answer)
+}
+
+// The length of the plain body that the reader leaves.
+#[no_mangle]
+pub extern "C" fn sat_ledger_read_length(ledger: &[u8], out_len: usize) -> usize
+    ensures { λ r. ⌜ r ≡ lengthOf (readAnswer (now (ledger .entry)) «out_len») ⌝ }
+{
+    let answer = read_answer(ledger, out_len);
+    length_of(answer)
+}

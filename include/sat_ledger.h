@@ -1,0 +1,75 @@
+/* Satellite access table bodies and their ledgers.
+ *
+ * sat_ledger_write files a body: it stores the ledger at the start of `out`. sat_ledger_read takes a ledger back to the plain
+ * body. Both return 0, or the number of the refusal. On 0 the bytes of `out` behind the result keep their values; after a
+ * refusal all of them do. `out` must not overlap the input. A pointer is never null, also where its length is 0.
+ *
+ * The further calls are given the same bytes and the length of the buffer, not the buffer. They write nothing, keep nothing
+ * between calls, and may be made before, after or without the call that fills the buffer:
+ *   _need, _have       the two values of the refusal; 0 where nothing is refused
+ *   _length, _table_id the length of the result and its table id; 0 after a refusal
+ *
+ * Buffers that always suffice: 6 + 2 * body_len bytes for a ledger, so never more than SAT_LEDGER_MAX; SAT_BODY_MAX for a body.
+ *
+ * Number  Refused since                                               need, have
+ *  1      one field goes past the end of the body                     last bit wanted, bits in the body
+ *  2      the body is empty (table ids 2 and 4)                       1, 0
+ *  3      no room for an orbital position                             24, bits that remain (so in all to 13)
+ *  4      no room for the orbital elements                            344
+ *  5      no room for a cell's centre                                 76
+ *  6      no room for the list of delivery system ids                 32 each
+ *  7      no room for the list of new delivery systems                80 each
+ *  8      no room for the list of obsolescent delivery systems        80 each
+ *  9      no room for the time association                            152
+ * 10      no room for the clocks of a mode 0 plan                     96
+ * 11      no room for the head of a bitmap                            32
+ * 12      no room for a bitmap                                        its slots
+ * 13      no room for the clocks of a mode 2 plan                     192
+ * 14      a plan's fields end behind the end that its length gives    bits behind it, 0
+ * 15      no room for the header of table id 4                        64, bits that remain (so in all to 20)
+ * 16      no room for the metadata                                    120
+ * 17      no room for the usable start time                           56
+ * 18      no room for the usable stop time                            56
+ * 19      no room for an ephemeris entry                              248, or 344 with acceleration
+ * 20      no room for the covariance                                  728
+ * 21      the body has more than 4,096 bytes                          its length, 4096
+ * 22      the result is longer than the buffer                        its length, the buffer's
+ * 23      ledger: too short, wrong length in front, a field missing,  byte place, 0
+ *         or bytes over
+ * 24      ledger: the version is not 1                                2, 0
+ * 25      ledger: a value is too wide for its field, a flag is not    byte place, 0
+ *         0 or 1, or an unused slot bit is set
+ * 26      ledger: its plain body has more than 4,096 bytes            that length, 4096
+ *
+ * The writer refuses by 1 to 22, the reader by 22 to 26.
+ */
+#ifndef SAT_LEDGER_H
+#define SAT_LEDGER_H
+
+#include <stddef.h>
+#include <stdint.h>
+
+#define SAT_BODY_MAX 4096
+#define SAT_LEDGER_MAX 8198
+
+#ifdef __cplusplus
+extern "C" {
+#endif
+
+uint32_t sat_ledger_write(uint8_t table_id, const uint8_t *body, size_t body_len, uint8_t *out, size_t out_len);
+size_t sat_ledger_write_need(uint8_t table_id, const uint8_t *body, size_t body_len, size_t out_len);
+size_t sat_ledger_write_have(uint8_t table_id, const uint8_t *body, size_t body_len, size_t out_len);
+size_t sat_ledger_write_length(uint8_t table_id, const uint8_t *body, size_t body_len, size_t out_len);
+uint8_t sat_ledger_write_table_id(uint8_t table_id, const uint8_t *body, size_t body_len, size_t out_len);
+
+uint32_t sat_ledger_read(const uint8_t *ledger, size_t ledger_len, uint8_t *out, size_t out_len);
+size_t sat_ledger_read_need(const uint8_t *ledger, size_t ledger_len, size_t out_len);
+size_t sat_ledger_read_have(const uint8_t *ledger, size_t ledger_len, size_t out_len);
+size_t sat_ledger_read_length(const uint8_t *ledger, size_t ledger_len, size_t out_len);
+uint8_t sat_ledger_read_table_id(const uint8_t *ledger, size_t ledger_len, size_t out_len);
+
+#ifdef __cplusplus
+}
+#endif
+
+#endif

@@ -1,0 +1,104 @@
+/* The calls from C on many cases: one line of hexadecimal each on standard input, one answer line each on standard output.
+ *
+ * batch write   a line is a table id and a body; the answer is the ledger
+ * batch back    the same, and the ledger is read back: the answer is the plain body, '-' for an empty one
+ * batch read    a line is a ledger; the answer is the table id (two digits) and the plain body
+ *
+ * A refusal is 'R number need have'; an empty line gives 'no input'. Exit 2 on bad hexadecimal or a bad argument. */
+#include "sat_ledger.h"
+#include <stdio.h>
+#include <stdlib.h>
+#include <string.h>
+
+enum { LONGEST = 1 << 17 };
+
+static uint8_t in[LONGEST], out[LONGEST], again[LONGEST];
+static char line[2 * LONGEST + 2], text[2 * LONGEST + 8];
+
+static int digit(char c) {
+    if (c >= '0' && c <= '9') return c - '0';
+    if (c >= 'a' && c <= 'f') return c - 'a' + 10;
+    if (c >= 'A' && c <= 'F') return c - 'A' + 10;
+    return -1;
+}
+
+/* The bytes of a line in `in`; their number. */
+static size_t bytes_of(void) {
+    size_t n = 0;
+    const char *p = line;
+    while (*p != '\0' && *p != '\n') {
+        int high = digit(p[0]), low = high < 0 ? -1 : digit(p[1]);
+        if (low < 0 || n == LONGEST) {
+            fputs("batch: a line is not hexadecimal, or too long\n", stderr);
+            exit(2);
+        }
+        in[n++] = (uint8_t)(high * 16 + low);
+        p += 2;
+    }
+    return n;
+}
+
+static void show(const char *front, const uint8_t *bytes, size_t n) {
+    static const char digits[] = "0123456789abcdef";
+    size_t k = 0;
+    for (size_t i = 0; i < n; i++) {
+        text[k++] = digits[bytes[i] >> 4];
+        text[k++] = digits[bytes[i] & 15];
+    }
+    text[k++] = '\n';
+    fputs(front, stdout);
+    fwrite(text, 1, k, stdout);
+}
+
+static void refusal(unsigned number, size_t need, size_t have) {
+    printf("R %u %zu %zu\n", number, need, have);
+}
+
+static void write_case(size_t n, int back) {
+    uint8_t id = in[0];
+    const uint8_t *body = in + 1;
+    uint32_t r = sat_ledger_write(id, body, n - 1, out, sizeof out);
+    if (r != 0) {
+        refusal(r, sat_ledger_write_need(id, body, n - 1, sizeof out), sat_ledger_write_have(id, body, n - 1, sizeof out));
+        return;
+    }
+    size_t length = sat_ledger_write_length(id, body, n - 1, sizeof out);
+    if (!back) {
+        show("", out, length);
+        return;
+    }
+    r = sat_ledger_read(out, length, again, sizeof again);
+    if (r != 0 || sat_ledger_read_table_id(out, length, sizeof again) != id) {
+        printf("not read back: %u\n", r);
+        return;
+    }
+    size_t plain = sat_ledger_read_length(out, length, sizeof again);
+    show(plain == 0 ? "-" : "", again, plain);
+}
+
+static void read_case(size_t n) {
+    uint32_t r = sat_ledger_read(in, n, again, sizeof again);
+    if (r != 0) {
+        refusal(r, sat_ledger_read_need(in, n, sizeof again), sat_ledger_read_have(in, n, sizeof again));
+        return;
+    }
+    char front[4];
+    snprintf(front, sizeof front, "%02x", sat_ledger_read_table_id(in, n, sizeof again));
+    show(front, again, sat_ledger_read_length(in, n, sizeof again));
+}
+
+int main(int argc, char **argv) {
+    const char *what = argc == 2 ? argv[1] : "";
+    int is_read = strcmp(what, "read") == 0, back = strcmp(what, "back") == 0;
+    if (!is_read && !back && strcmp(what, "write") != 0) {
+        fputs("use: batch write|back|read < cases\n", stderr);
+        return 2;
+    }
+    while (fgets(line, sizeof line, stdin) != NULL) {
+        size_t n = bytes_of();
+        if (is_read) read_case(n);
+        else if (n == 0) puts("no input");
+        else write_case(n, back);
+    }
+    return fflush(stdout) == 0 ? 0 : 1;
+}
