@@ -1,7 +1,7 @@
 /* Files a body and reads it back. Arguments: a table id and the body in hexadecimal; without them, a built-in body of id 0. */
+#include <ctype.h>
 #include <stdio.h>
 #include <stdlib.h>
-#include <string.h>
 #include "sat_ledger.h"
 
 static void show(const char *what, const uint8_t *bytes, size_t n)
@@ -12,21 +12,34 @@ static void show(const char *what, const uint8_t *bytes, size_t n)
     printf("\n");
 }
 
+/* The bytes of a text of pairs of digits, and how many they are; 0 where the text is not that, or has too many. */
+static int read_hex(const char *hex, uint8_t *bytes, size_t most, size_t *n)
+{
+    for (*n = 0; *hex != 0; hex += 2, ++*n) {
+        if (!isxdigit((unsigned char)hex[0]) || !isxdigit((unsigned char)hex[1]) || *n == most)
+            return 0;
+        char two[3] = {hex[0], hex[1], 0};
+        bytes[*n] = (uint8_t)strtoul(two, NULL, 16);
+    }
+    return 1;
+}
+
 int main(int argc, char **argv)
 {
     static uint8_t body[SAT_BODY_MAX + 1], ledger[SAT_LEDGER_MAX], plain[SAT_BODY_MAX];
-    unsigned id = 0;
+    unsigned long id = 0;
     const char *hex = "00000700012080ff";
+    size_t n = 0;
     if (argc == 3) {
-        id = (unsigned)strtoul(argv[1], NULL, 10) & 255;
+        char *end;
+        id = strtoul(argv[1], &end, 10);
         hex = argv[2];
+        if (*end != 0 || end == argv[1])
+            id = 256;
     }
-    size_t n = strlen(hex) / 2;
-    if (n > sizeof body)
-        n = sizeof body;
-    for (size_t i = 0; i < n; i++) {
-        char two[3] = {hex[2 * i], hex[2 * i + 1], 0};
-        body[i] = (uint8_t)strtoul(two, NULL, 16);
+    if ((argc != 1 && argc != 3) || id > 255 || !read_hex(hex, body, sizeof body, &n)) {
+        fprintf(stderr, "use: file_a_body [TABLE-ID BODY-IN-HEXADECIMAL]\n");
+        return 2;
     }
     show("body", body, n);
     uint32_t no = sat_ledger_write((uint8_t)id, body, n, ledger, sizeof ledger);
