@@ -2,6 +2,7 @@ pub mod Splices
 pub mod Groups
 pub mod Values
 pub mod Words
+pub mod Cuts
 pub mod Patches
 pub mod Tests
 pub mod Answers

@@ -1,17 +1,20 @@
 -- Big-endian numbers in bytes: the turns of `get_be` and `put_be`.
 -- Assumes nothing.
 use Prim.Native.Nat.{ℕ, suc, _+_, _-_, _*_, _/_, _%_, _^_, _≤_, _<_}
-use mathlib.Core.Path.{_≡_}
-use mathlib.Core.List.{List}
-use native.Mathlib.Nat.{pow-zero, pow-suc, div-div-eq-div-mul, pow-le-pow-right, lt-of-lt-of-le}
+use mathlib.Core.Path.{_≡_, refl, sym, ap, _∙_}
+use mathlib.Core.List.{List, [], _∷_}
+use native.Mathlib.Nat.{add-zero, div-one, pow-zero, pow-suc, div-div-eq-div-mul, pow-le-pow-right, lt-of-lt-of-le}
 use native.Mathlib.Numerals.{add-one}
 use native.Mathlib.Omega.{arith}
 use lib.Arith.{digits-lt}
-use lib.ListN.{length, take, drop, getD, set, length-drop}
+use lib.ListN.{length, take, drop, getD, set, length-drop, length-set}
 use lib.Seq.{take-suc, getD-drop}
-use Rattle.format.specs.Digits.{digits, value, splice}
-use Rattle.bits.proofs.Splices.{set-splice}
-use Rattle.bits.proofs.Groups.{value-append}
+use Rattle.format.specs.Digits.{digits, value, valueAt, splice}
+use Rattle.format.proofs.DigitLaws.{length-digits}
+use Rattle.bits.proofs.Splices.{set-one, set-splice, splice-splice}
+use Rattle.bits.proofs.Groups.{digits-none, digits-split, value-append, value-part, pow-256}
+use Rattle.bits.proofs.Values.{valueAt-add, valueAt-byte, valueAt-lt}
+use Rattle.bits.specs.Read.{Spelt}
 
 -- one element more
 pub value-more : (b : ℕ) (s : List ℕ) (at i : ℕ) → at + i < length s
@@ -27,6 +30,30 @@ more-lt x i d h g = rw (add-one i, pow-suc 256 i) (digits-lt h g)
 
 pub word-lt : (x i : ℕ) → x < 256 ^ i → i ≤ 8 → x < 2 ^ 64
 word-lt x i h g = lt-of-lt-of-le h (pow-le-pow-right {n = 256} (omega arith) {j = 8} g)
+
+-- a byte, and two groups of bytes of which one stands behind the other
+pub spelt-byte : (s : List ℕ) (at v : ℕ) → at < length s → v ≡ getD s at 0 → v < 256 → Spelt s at 1 v
+unfolding value
+spelt-byte s at v h e small =
+    let f : at + 0 ≡ at = omega arith in
+    let m : value 256 (take 1 (drop at s)) ≡ 0 * 256 + getD s (at + 0) 0 = value-more 256 s at 0 (omega arith) in
+    let low : v ≡ getD s at 0 / 1 % 256 = omega arith in
+    record {
+      bytes = e ∙ omega arith ∙ ap (λ (i : ℕ). 0 * 256 + getD s i 0) (sym f) ∙ sym m;
+      bits = low ∙ sym (valueAt-byte s at 0 8 0 h refl) ∙ ap (λ (p : ℕ). valueAt s p 8) (add-zero (8 * at));
+    }
+
+pub spelt-both : (s : List ℕ) (at a b hi lo : ℕ) → at + a + b ≤ length s → Spelt s at a hi → Spelt s (at + a) b lo → Spelt s at (a + b) (hi * 256 ^ b + lo)
+spelt-both s at a b hi lo h x y =
+    let e : 8 * (a + b) ≡ 8 * a + 8 * b = omega arith in
+    let f : 8 * (at + a) ≡ 8 * at + 8 * a = omega arith in
+    record {
+      bytes = rw (value-part 256 s at a b h, ← x .bytes, ← y .bytes);
+      bits = rw (e, valueAt-add s (8 * at) (8 * a) (8 * b) (omega arith), ← x .bits, ← pow-256 b, ← f, ← y .bits);
+    }
+
+pub spelt-lt : (s : List ℕ) (at k v : ℕ) → Spelt s at k v → v < 256 ^ k
+spelt-lt s at k v x = rw (x .bits, pow-256 k) (valueAt-lt s (8 * at) (8 * k))
 
 -- one turn of `put_be`
 pub record PutTurn (l : List ℕ) (at k v i : ℕ) : Type 0 where
@@ -44,3 +71,21 @@ put-turn l at k v i p h r =
       rest = rw (f, pow-suc 256 m) (div-div-eq-div-mul v (256 ^ m) 256);
       list = rw (e, f) (set-splice l (at + (i - 1)) (v / 256 ^ m % 256) (digits 256 m v) (omega arith));
     }
+
+-- the first bytes of a number stored, and then the others behind them
+pub put-both : (l : List ℕ) (at m k n v : ℕ) → n ≡ at + m → at + m + k ≤ length l
+    → splice (splice l at (digits 256 m (v / 256 ^ k))) n (digits 256 k v) ≡ splice l at (digits 256 (m + k) v)
+put-both l at m k n v e h =
+    let size : length (digits 256 m (v / 256 ^ k)) ≡ m = length-digits 256 m (v / 256 ^ k) in
+    rw (splice-splice l at (digits 256 m (v / 256 ^ k)) (digits 256 k v) n (omega arith) (omega arith), digits-split 256 m k v)
+
+-- two bytes stored one by one
+pub put-two : (l : List ℕ) (at v : ℕ) → at + 2 ≤ length l → set (set l at (v / 256 % 256)) (at + 1) (v % 256) ≡ splice l at (digits 256 2 v)
+unfolding digits
+put-two l at v h =
+    let x = v / 256 % 256 in
+    let y = v % 256 in
+    let one : set l at x ≡ splice l at (x ∷ []) = set-one l at x (omega arith) in
+    let two = set-one (set l at x) (at + 1) y (simp length-set (omega arith)) in
+    two ∙ ap (λ (z : List ℕ). splice z (at + 1) (y ∷ [])) one ∙ splice-splice l at (x ∷ []) (y ∷ []) (at + 1) refl (omega arith)
+    ∙ ap (λ (z : ℕ). splice l at (x ∷ z % 256 ∷ [])) (sym (div-one v))

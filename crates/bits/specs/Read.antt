@@ -1,11 +1,12 @@
 -- What reading bits at a place of a body finds, and the places at which a body may be read.
 -- Assumes nothing: these are definitions.
 use Prim.Native.Nat.{ℕ, _+_, _*_, _≤_}
+use mathlib.Core.Path.{_≡_}
 use mathlib.Core.Bool.{cond}
 use mathlib.Core.List.{List}
 use lib.Dec.{leb}
-use lib.ListN.{length}
-use Rattle.format.specs.Digits.{valueAt, twos}
+use lib.ListN.{length, take, drop}
+use Rattle.format.specs.Digits.{value, valueAt, twos}
 use Rattle.format.specs.Refusals.{refuse}
 use Rattle.format.specs.declared.Refusal.{Refusal}
 use Rattle.bits.specs.declared.Bits.{Bits}
@@ -22,6 +23,11 @@ pub record Place (s : List ℕ) (at : ℕ) : Type 0 where
 pub record Room (s : List ℕ) (at w : ℕ) : Type 0 where
   pub short : length s ≤ 65536
   pub fits : at + w ≤ 8 * length s
+
+-- v is the number that k bytes from a byte place spell, and that their bits spell
+pub record Spelt (s : List ℕ) (at k v : ℕ) : Type 0 where
+  pub bytes : v ≡ value 256 (take k (drop at s))
+  pub bits : v ≡ valueAt s (8 * at) (8 * k)
 
 -- w bits that are all there: their number and the place behind them; else the bits needed and the bits there are
 unfoldable pub readAt : List ℕ → ℕ → ℕ → Bits

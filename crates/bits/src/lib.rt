@@ -3,7 +3,7 @@ ghost use mathlib.Core.Path.{_≡_};
 ghost use Prim.Native.Nat.{_+_, _-_, _*_, _/_, _%_, _^_, _≤_, _<_};
 ghost use lib.ListN.{length, take, drop};
 ghost use Rattle.format.specs.Digits.{digits, value, bitsOf, valueAt, twos, splice};
-ghost use Rattle.bits.specs.Read.{readAt, readSigned, refusalOf, Place, Room};
+ghost use Rattle.bits.specs.Read.{readAt, readSigned, refusalOf, Place, Room, Spelt};
 use format::Refusal;
 
 // What reading bits at a place finds: their number and the place behind them, or why they are refused.
@@ -70,8 +70,8 @@ fn step_bits(place: usize, need: usize) -> usize
     }
 }
 
-// The number that bits spell which are known to be there, a byte at a time.
-pub fn value_at(s: &[u8], at: usize, bits: usize) -> u64
+// The number that bits spell which are known to be there, a byte at a time: for those near the end.
+fn value_bytewise(s: &[u8], at: usize, bits: usize) -> u64
     requires { ⌜ Room (now s) at bits ⌝ }
     requires { ⌜ bits ≤ 64 ⌝ }
     ensures { λ r. ⌜ r ≡ valueAt (now (s .entry)) at bits ⌝ }
@@ -86,6 +86,44 @@ pub fn value_at(s: &[u8], at: usize, bits: usize) -> u64
         place += n;
     }
     value
+}
+
+// The number of two bytes from a byte place; the sums are such as the compiler makes one load of.
+fn pair_at(s: &[u8], at: usize) -> u64
+    requires { ⌜ at + 2 ≤ length (now s) ⌝ }
+    ensures { λ r. ⌜ Spelt (now (s .entry)) at 2 r ⌝ }
+{
+    s[at] as u64 * 256 + s[at + 1] as u64
+}
+
+// The number of four bytes.
+fn quad_at(s: &[u8], at: usize) -> u64
+    requires { ⌜ at + 4 ≤ length (now s) ⌝ }
+    ensures { λ r. ⌜ Spelt (now (s .entry)) at 4 r ⌝ }
+{
+    pair_at(s, at) * 65536 + pair_at(s, at + 2)
+}
+
+// The number of eight bytes.
+fn word_at(s: &[u8], at: usize) -> u64
+    requires { ⌜ at + 8 ≤ length (now s) ⌝ }
+    ensures { λ r. ⌜ Spelt (now (s .entry)) at 8 r ⌝ }
+{
+    quad_at(s, at) * 4294967296 + quad_at(s, at + 4)
+}
+
+// The number that bits spell which are known to be there: cut out of eight bytes where these are there too.
+pub fn value_at(s: &[u8], at: usize, bits: usize) -> u64
+    requires { ⌜ Room (now s) at bits ⌝ }
+    requires { ⌜ bits ≤ 64 ⌝ }
+    ensures { λ r. ⌜ r ≡ valueAt (now (s .entry)) at bits ⌝ }
+{
+    let first = at / 8;
+    let off = at % 8;
+    if 0 < bits && off + bits <= 64 && first + 8 <= s.len() {
+        return (word_at(s, first) << off) >> (64 - bits);
+    }
+    value_bytewise(s, at, bits)
 }
 
 // Reads an unsigned number; refused with number 1 where its bits go on behind the end.
@@ -138,8 +176,8 @@ pub fn read_i(s: &[u8], at: usize, bits: usize) -> SignedBits
     }
 }
 
-// The number that k bytes from a byte place spell.
-pub fn get_be(s: &[u8], at: usize, k: usize) -> u64
+// The number of any few bytes, one after the other.
+fn bytes_at(s: &[u8], at: usize, k: usize) -> u64
     requires { ⌜ (at + k ≤ length (now s)) × (k ≤ 8) ⌝ }
     ensures { λ r. ⌜ r ≡ value 256 (take k (drop at (now (s .entry)))) ⌝ }
 {
@@ -150,8 +188,52 @@ pub fn get_be(s: &[u8], at: usize, k: usize) -> u64
     value
 }
 
-// Stores the k low bytes of v from a byte place on, the last one first.
-pub fn put_be(out: &mut [u8], at: usize, k: usize, v: u64)
+// The number that k bytes from a byte place spell; the sizes that a ledger has are taken at once.
+pub fn get_be(s: &[u8], at: usize, k: usize) -> u64
+    requires { ⌜ (at + k ≤ length (now s)) × (k ≤ 8) ⌝ }
+    ensures { λ r. ⌜ r ≡ value 256 (take k (drop at (now (s .entry)))) ⌝ }
+{
+    if k == 2 {
+        return pair_at(s, at);
+    }
+    if k == 4 {
+        return quad_at(s, at);
+    }
+    if k == 8 {
+        return word_at(s, at);
+    }
+    bytes_at(s, at, k)
+}
+
+// Stores the two low bytes of v from a byte place on.
+fn put_pair(out: &mut [u8], at: usize, v: u64)
+    requires { ⌜ at + 2 ≤ length (now out) ⌝ }
+    ensures { λ _. ⌜ now (out .exit) ≡ splice (now (out .entry)) at (digits 256 2 v) ⌝ }
+{
+    out[at] = (v / 256 % 256) as u8;
+    out[at + 1] = (v % 256) as u8;
+}
+
+// The four low bytes.
+fn put_quad(out: &mut [u8], at: usize, v: u64)
+    requires { ⌜ at + 4 ≤ length (now out) ⌝ }
+    ensures { λ _. ⌜ now (out .exit) ≡ splice (now (out .entry)) at (digits 256 4 v) ⌝ }
+{
+    put_pair(out, at, v / 65536);
+    put_pair(out, at + 2, v);
+}
+
+// All eight bytes.
+fn put_word(out: &mut [u8], at: usize, v: u64)
+    requires { ⌜ at + 8 ≤ length (now out) ⌝ }
+    ensures { λ _. ⌜ now (out .exit) ≡ splice (now (out .entry)) at (digits 256 8 v) ⌝ }
+{
+    put_quad(out, at, v / 4294967296);
+    put_quad(out, at + 4, v);
+}
+
+// Stores the low bytes of v, as many as wanted, the last one first.
+fn put_bytes(out: &mut [u8], at: usize, k: usize, v: u64)
     requires { ⌜ at + k ≤ length (now out) ⌝ }
     ensures { λ _. ⌜ now (out .exit) ≡ splice (now (out .entry)) at (digits 256 k v) ⌝ }
 {
@@ -161,6 +243,22 @@ pub fn put_be(out: &mut [u8], at: usize, k: usize, v: u64)
         i -= 1;
         out[at + i] = (rest % 256) as u8;
         rest = rest / 256;
+    }
+}
+
+// Stores the k low bytes of v from a byte place on; the sizes that a ledger has are stored at once.
+pub fn put_be(out: &mut [u8], at: usize, k: usize, v: u64)
+    requires { ⌜ at + k ≤ length (now out) ⌝ }
+    ensures { λ _. ⌜ now (out .exit) ≡ splice (now (out .entry)) at (digits 256 k v) ⌝ }
+{
+    if k == 2 {
+        put_pair(out, at, v);
+    } else if k == 4 {
+        put_quad(out, at, v);
+    } else if k == 8 {
+        put_word(out, at, v);
+    } else {
+        put_bytes(out, at, k, v);
     }
 }
 

@@ -1,72 +1,60 @@
--- `put_be` meets its contract. The loop's invariant: the bytes from i on are stored, and `rest` holds those before.
+-- `put_be` meets its contract, by the bytes there are.
 -- Assumes nothing.
-use Prim.Native.Nat.{_+_, _-_, _/_, _^_, _≤_}
-use mathlib.Core.Path.{_≡_, refl, sym}
-use native.Mathlib.Nat.{div-one, sub-zero, add-zero}
+use mathlib.Core.Path.{_≡_}
 use native.Mathlib.Omega.{arith}
-use lib.ListN.{length, length-set}
-use denote.Ref.{now}
-use Rattle.format.specs.Digits.{digits, splice}
-use Rattle.bits.proofs.Splices.{splice-nil}
-use Rattle.bits.proofs.Words.{put-turn}
+use borrow.Author.Needs.{needs}
 use Rattle.bits.proofs.put_be.Statement.{statement}
 use Rattle.bits.proofs.put_be.Tie as tie
 
-abbrev Inv-loop : tie.InvT-loop
-Inv-loop out₀ at k v rest₀ i₀ out rest i =
-    (length out ≡ length out₀) × (i ≤ k) × (rest ≡ v / 256 ^ (k - i)) × (out ≡ splice out₀ (at + i) (digits 256 (k - i) v))
+put-pair-requires : tie.Need-put-pair-requires
+put-pair-requires c κs = search needs
 
-abbrev μ-loop : tie.MeasureT-loop
-μ-loop out₀ at k v rest₀ i₀ out rest i = i
+put-quad-requires : tie.Need-put-quad-requires
+put-quad-requires c κs = search needs
 
-loop-holds : tie.Need-loop-holds Inv-loop μ-loop
-unfolding digits
-loop-holds c =
-    let z : c .args .k - c .args .k ≡ 0 = omega arith in
-    rw z (refl, omega arith, sym (div-one _), sym (splice-nil _ _))
+put-word-requires : tie.Need-put-word-requires
+put-word-requires c κs = search needs
 
-sub-i : tie.Need-sub-i Inv-loop μ-loop
-sub-i c = omega arith
+put-bytes-requires : tie.Need-put-bytes-requires
+put-bytes-requires c κs = search needs
 
-cast-out : tie.Need-cast-out Inv-loop μ-loop
-cast-out c = omega arith
+same-length : tie.Need-same-length
+same-length c = search needs
 
-add-out : tie.Need-add-out Inv-loop μ-loop
-add-out c = omega arith
+returns : tie.Need-returns
+returns c = let e : c .before .before .before .before .before .before .args .k ≡ 2 = omega arith in rw e (c .before .before .put-pair .ensures)
 
-slice-write-out : tie.Need-slice-write-out Inv-loop μ-loop
-slice-write-out c = omega arith
+same-length-2 : tie.Need-same-length-2
+same-length-2 c = search needs
 
-loop-less : tie.Need-loop-less Inv-loop μ-loop
-loop-less c = omega arith
+returns-2 : tie.Need-returns-2
+returns-2 c = let e : c .before .before .before .before .before .before .before .args .k ≡ 4 = omega arith in rw e (c .before .before .put-quad .ensures)
 
-loop-again : tie.Need-loop-again Inv-loop μ-loop
-loop-again c =
-    let a = c .before .before .args in
-    let l = c .before .loop in
-    let t = put-turn (now (a .out)) (a .at) (a .k) (a .v) (l .i) (omega arith) (omega arith) (omega arith) in
-    (simp length-set (l .inv .0), omega arith, rw (l .inv .2) (t .rest), rw (l .inv .2, l .inv .3) (t .list))
+same-length-3 : tie.Need-same-length-3
+same-length-3 c = search needs
 
-same-length : tie.Need-same-length Inv-loop μ-loop
-same-length c = c .before .loop .inv .0
+returns-3 : tie.Need-returns-3
+returns-3 c = let e : c .before .before .before .before .before .before .before .before .args .k ≡ 8 = omega arith in rw e (c .before .before .put-word .ensures)
 
-returns : tie.Need-returns Inv-loop μ-loop
-returns c =
-    let z : c .before .loop .i ≡ 0 = omega arith in
-    simp (z, sub-zero, add-zero) at (c .before .loop .inv .3)
+same-length-4 : tie.Need-same-length-4
+same-length-4 c = search needs
+
+returns-4 : tie.Need-returns-4
+returns-4 c = search needs
 
 pub put-be-spec : {M : Type 1} → statement M
 put-be-spec =
     tie.close
     (tie.spec
-    Inv-loop
-    μ-loop
-    loop-holds
-    sub-i
-    cast-out
-    add-out
-    slice-write-out
-    loop-less
-    loop-again
+    put-pair-requires
+    put-quad-requires
+    put-word-requires
+    put-bytes-requires
     same-length
-    returns)
+    returns
+    same-length-2
+    returns-2
+    same-length-3
+    returns-3
+    same-length-4
+    returns-4)
