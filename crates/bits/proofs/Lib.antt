@@ -4,6 +4,7 @@ pub mod Values
 pub mod Words
 pub mod Cuts
 pub mod Patches
+pub mod WordPatches
 pub mod Tests
 pub mod Answers
 pub mod Signs

@@ -15,32 +15,32 @@ use Rattle.bits.proofs.Splices.{splice-splice, splice-in, set-one}
 use Rattle.bits.proofs.Groups.{digits-split, digits-join, low-digits, take-digits, drop-digits, bits-drop, bits-splice}
 use Rattle.bits.proofs.Values.{one-shl}
 
--- what `patched` computes: the first off bits of b, the n of c, the last m of b
-abbrev joined : ℕ → ℕ → ℕ → ℕ → ℕ
-joined b n m c = b / 2 ^ (n + m) * 2 ^ n + c
+-- N bits with some replaced: the first off of b, the n of c, the last m of b
+abbrev pub replaced : ℕ → ℕ → ℕ → ℕ → ℕ
+replaced b n m c = (b / 2 ^ (n + m) * 2 ^ n + c) * 2 ^ m + b % 2 ^ m
 
-module _ (b off n m c : ℕ) (byte : b < 256) (eight : off + (n + m) ≡ 8) (small : c < 2 ^ n) where
-  joined-lt : joined b n m c < 2 ^ (off + n)
-  joined-lt =
-      let h : b / 2 ^ (n + m) < 2 ^ off = shr-lt off (n + m) (subst (λ (k : ℕ). b < 2 ^ k) (sym eight) byte) in
-      rw (pow-add 2 off n) (digits-lt h small)
+module _ (N b off n m c : ℕ) (all : off + (n + m) ≡ N) (small : c < 2 ^ n) where
+  front-lt : b < 2 ^ N → b / 2 ^ (n + m) * 2 ^ n + c < 2 ^ (off + n)
+  front-lt h =
+      let t : b / 2 ^ (n + m) < 2 ^ off = shr-lt off (n + m) (subst (λ (k : ℕ). b < 2 ^ k) (sym all) h) in
+      rw (pow-add 2 off n) (digits-lt t small)
 
-  patched-lt : joined b n m c * 2 ^ m + b % 2 ^ m < 256
-  patched-lt =
-      let e : off + n + m ≡ 8 = omega arith in
-      subst (λ (k : ℕ). joined b n m c * 2 ^ m + b % 2 ^ m < 2 ^ k) e
-      (rw (pow-add 2 (off + n) m) (digits-lt joined-lt (mod-lt b (pow-pos m))))
+  pub replaced-lt : b < 2 ^ N → replaced b n m c < 2 ^ N
+  replaced-lt h =
+      let e : off + n + m ≡ N = omega arith in
+      subst (λ (k : ℕ). replaced b n m c < 2 ^ k) e
+      (rw (pow-add 2 (off + n) m) (digits-lt (front-lt h) (mod-lt b (pow-pos m))))
 
-  patched-bits : digits 2 8 (joined b n m c * 2 ^ m + b % 2 ^ m) ≡ splice (digits 2 8 b) off (digits 2 n c)
+  pub replaced-bits : digits 2 N (replaced b n m c) ≡ splice (digits 2 N b) off (digits 2 n c)
   unfolding splice
-  patched-bits =
-      let j = joined b n m c in
-      let e : off + n + m ≡ 8 = omega arith in
-      let t : take off (digits 2 8 b) ≡ digits 2 off (b / 2 ^ (n + m)) =
-      subst (λ (k : ℕ). take off (digits 2 k b) ≡ digits 2 off (b / 2 ^ (n + m))) eight (take-digits 2 off (n + m) b) in
-      let d : drop (off + n) (digits 2 8 b) ≡ digits 2 m b =
+  replaced-bits =
+      let j = b / 2 ^ (n + m) * 2 ^ n + c in
+      let e : off + n + m ≡ N = omega arith in
+      let t : take off (digits 2 N b) ≡ digits 2 off (b / 2 ^ (n + m)) =
+      subst (λ (k : ℕ). take off (digits 2 k b) ≡ digits 2 off (b / 2 ^ (n + m))) all (take-digits 2 off (n + m) b) in
+      let d : drop (off + n) (digits 2 N b) ≡ digits 2 m b =
       subst (λ (k : ℕ). drop (off + n) (digits 2 k b) ≡ digits 2 m b) e (drop-digits 2 (off + n) m b) in
-      let w : digits 2 8 (j * 2 ^ m + b % 2 ^ m) ≡ digits 2 (off + n) j ++ digits 2 m b =
+      let w : digits 2 N (j * 2 ^ m + b % 2 ^ m) ≡ digits 2 (off + n) j ++ digits 2 m b =
       subst (λ (k : ℕ). digits 2 k (j * 2 ^ m + b % 2 ^ m) ≡ digits 2 (off + n) j ++ digits 2 m b) e
       (rw (digits-join 2 (off + n) m j (b % 2 ^ m) (omega arith) (mod-lt b (pow-pos m)), low-digits 2 m b (omega arith))) in
       rw (w, digits-join 2 off n (b / 2 ^ (n + m)) c (omega arith) small, t, length-digits 2 n c, d)
@@ -63,14 +63,14 @@ patched b off n c byte h small =
     let eight : off + (n + m) ≡ 8 = omega arith in
     let e : 8 - off ≡ n + m = omega arith in
     let top : b / 2 ^ (n + m) < 2 ^ off = shr-lt off (n + m) (subst (λ (k : ℕ). b < 2 ^ k) (sym eight) byte) in
-    let j : raw-joined b off n c ≡ joined b n m c =
+    let j : raw-joined b off n c ≡ b / 2 ^ (n + m) * 2 ^ n + c =
     ap (λ (k : ℕ). b / 2 ^ k * 2 ^ n % 2 ^ 64 + c) e ∙ ap (λ (x : ℕ). x + c) (shl-exact off n 64 top (omega arith)) in
-    let lt = joined-lt b off n m c byte eight small in
-    let r : raw b off n c ≡ joined b n m c * 2 ^ m + b % 2 ^ m = rw (j, shl-exact (off + n) m 64 lt (omega arith), one-shl m (omega arith)) in
+    let lt = front-lt 8 b off n m c eight small byte in
+    let r : raw b off n c ≡ replaced b n m c = rw (j, shl-exact (off + n) m 64 lt (omega arith), one-shl m (omega arith)) in
     record {
       joins = rw j (lt-of-lt-of-le lt (pow-mono {j = 8} h));
-      byte = rw r (patched-lt b off n m c byte eight small);
-      same = rw r (patched-bits b off n m c byte eight small);
+      byte = rw r (replaced-lt 8 b off n m c eight small byte);
+      same = rw r (replaced-bits 8 b off n m c eight small);
     }
 
 -- the bits of one byte

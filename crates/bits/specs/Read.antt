@@ -24,6 +24,12 @@ pub record Room (s : List ℕ) (at w : ℕ) : Type 0 where
   pub short : length s ≤ 65536
   pub fits : at + w ≤ 8 * length s
 
+-- a place of a buffer, of whatever length, at which w bits can be stored; the bound keeps the place's sums from wrapping
+pub record Storable (s : List ℕ) (at w : ℕ) : Type 0 where
+  pub early : at ≤ 4294967296
+  pub few : w ≤ 64
+  pub fits : at + w ≤ 8 * length s
+
 -- v is the number that k bytes from a byte place spell, and that their bits spell
 pub record Spelt (s : List ℕ) (at k v : ℕ) : Type 0 where
   pub bytes : v ≡ value 256 (take k (drop at s))

@@ -3,7 +3,7 @@ ghost use mathlib.Core.Path.{_≡_};
 ghost use Prim.Native.Nat.{_+_, _-_, _*_, _/_, _%_, _^_, _≤_, _<_};
 ghost use lib.ListN.{length, take, drop};
 ghost use Rattle.format.specs.Digits.{digits, value, bitsOf, valueAt, twos, splice};
-ghost use Rattle.bits.specs.Read.{readAt, readSigned, refusalOf, Place, Room, Spelt};
+ghost use Rattle.bits.specs.Read.{readAt, readSigned, refusalOf, Place, Room, Storable, Spelt};
 use format::Refusal;
 
 // What reading bits at a place finds: their number and the place behind them, or why they are refused.
@@ -275,10 +275,30 @@ fn patched(b: u8, off: usize, n: usize, c: u64) -> u8
     ((joined << m) + kept) as u8
 }
 
-// Stores the low bits of v from a bit place on, and keeps every other bit.
-pub fn write_u(out: &mut [u8], at: usize, width: usize, v: u64)
-    requires { ⌜ Room (now out) at width ⌝ }
-    requires { ⌜ width ≤ 64 ⌝ }
+// The 64 bits of a word with the low bits of v in place of those behind its first `off`.
+fn patched_word(word: u64, off: usize, width: usize, v: u64) -> u64
+    requires { ⌜ (1 ≤ width) × (off + width ≤ 64) ⌝ }
+    ensures { λ r. ⌜ digits 2 64 r ≡ splice (digits 2 64 word) off (digits 2 width v) ⌝ }
+{
+    let rest = 64 - width;
+    let low = rest - off;
+    let old = (word << off) >> rest;
+    let new = (v << rest) >> rest;
+    word - (old << low) + (new << low)
+}
+
+// Stores the low bits of v behind the first `off` bits of the eight bytes from a byte place on.
+fn write_word(out: &mut [u8], first: usize, off: usize, width: usize, v: u64)
+    requires { ⌜ (first + 8 ≤ length (now out)) × (1 ≤ width) × (off + width ≤ 64) ⌝ }
+    ensures { λ _. ⌜ bitsOf (now (out .exit)) ≡ splice (bitsOf (now (out .entry))) (8 * first + off) (digits 2 width v) ⌝ }
+{
+    let word = word_at(out, first);
+    put_word(out, first, patched_word(word, off, width, v));
+}
+
+// The low bits of v stored a byte at a time: for those near the end.
+fn write_bytewise(out: &mut [u8], at: usize, width: usize, v: u64)
+    requires { ⌜ Storable (now out) at width ⌝ }
     ensures { λ _. ⌜ bitsOf (now (out .exit)) ≡ splice (bitsOf (now (out .entry))) at (digits 2 width v) ⌝ }
 {
     let need = at + width;
@@ -290,5 +310,19 @@ pub fn write_u(out: &mut [u8], at: usize, width: usize, v: u64)
         let b = out[q];
         out[q] = patched(b, place % 8, n, c);
         place += n;
+    }
+}
+
+// Stores the low bits of v from a bit place on, and keeps every other bit.
+pub fn write_u(out: &mut [u8], at: usize, width: usize, v: u64)
+    requires { ⌜ Storable (now out) at width ⌝ }
+    ensures { λ _. ⌜ bitsOf (now (out .exit)) ≡ splice (bitsOf (now (out .entry))) at (digits 2 width v) ⌝ }
+{
+    let first = at / 8;
+    let off = at % 8;
+    if 0 < width && off + width <= 64 && first + 8 <= out.len() {
+        write_word(out, first, off, width, v);
+    } else {
+        write_bytewise(out, at, width, v);
     }
 }

@@ -20,14 +20,13 @@ use runs::shown_of;
 use runs::size_of;
 use runs::width_of;
 
-// Stores the low bits of v at a bit place where there is room for them. Only the bytes that get some are lent.
+// Stores the low bits of v at a bit place where there is room for them.
 pub fn lay(out: &mut [u8], at: usize, width: usize, v: u64)
     requires { ⌜ (at ≤ 600000) × (width ≤ 64) ⌝ }
     ensures { λ _. ⌜ (at + width ≤ 8 * length (now (out .entry)) → bitsOf (now (out .exit)) ≡ splice (bitsOf (now (out .entry))) at (digits 2 width v)) ⌝ }
 {
-    let end = (at + width + 7) / 8;
-    if end <= out.len() {
-        write_u(&mut out[at / 8..end], at % 8, width, v);
+    if (at + width + 7) / 8 <= out.len() {
+        write_u(out, at, width, v);
     }
 }
 
