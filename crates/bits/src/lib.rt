@@ -88,20 +88,20 @@ fn value_bytewise(s: &[u8], at: usize, bits: usize) -> u64
     value
 }
 
-// The number of two bytes from a byte place; the sums are such as the compiler makes one load of.
-fn pair_at(s: &[u8], at: usize) -> u64
+// The number of two bytes from a byte place. Each of these three has a type of its own size: so the compiler makes one load of it.
+fn pair_at(s: &[u8], at: usize) -> u16
     requires { ⌜ at + 2 ≤ length (now s) ⌝ }
     ensures { λ r. ⌜ Spelt (now (s .entry)) at 2 r ⌝ }
 {
-    s[at] as u64 * 256 + s[at + 1] as u64
+    s[at] as u16 * 256 + s[at + 1] as u16
 }
 
 // The number of four bytes.
-fn quad_at(s: &[u8], at: usize) -> u64
+fn quad_at(s: &[u8], at: usize) -> u32
     requires { ⌜ at + 4 ≤ length (now s) ⌝ }
     ensures { λ r. ⌜ Spelt (now (s .entry)) at 4 r ⌝ }
 {
-    pair_at(s, at) * 65536 + pair_at(s, at + 2)
+    pair_at(s, at) as u32 * 65536 + pair_at(s, at + 2) as u32
 }
 
 // The number of eight bytes.
@@ -109,7 +109,7 @@ fn word_at(s: &[u8], at: usize) -> u64
     requires { ⌜ at + 8 ≤ length (now s) ⌝ }
     ensures { λ r. ⌜ Spelt (now (s .entry)) at 8 r ⌝ }
 {
-    quad_at(s, at) * 4294967296 + quad_at(s, at + 4)
+    quad_at(s, at) as u64 * 4294967296 + quad_at(s, at + 4) as u64
 }
 
 // The number that bits spell which are known to be there: cut out of eight bytes where these are there too.
@@ -194,10 +194,10 @@ pub fn get_be(s: &[u8], at: usize, k: usize) -> u64
     ensures { λ r. ⌜ r ≡ value 256 (take k (drop at (now (s .entry)))) ⌝ }
 {
     if k == 2 {
-        return pair_at(s, at);
+        return pair_at(s, at) as u64;
     }
     if k == 4 {
-        return quad_at(s, at);
+        return quad_at(s, at) as u64;
     }
     if k == 8 {
         return word_at(s, at);

@@ -9,11 +9,17 @@ use Rattle.bits.proofs.get_be.Tie as tie
 pair-at-requires : tie.Need-pair-at-requires
 pair-at-requires c κs = search needs
 
+cast-result : tie.Need-cast-result
+cast-result c = search needs
+
 returns : tie.Need-returns
 returns c = let e : c .before .before .before .args .k ≡ 2 = omega arith in rw e (c .pair-at .ensures .bytes)
 
 quad-at-requires : tie.Need-quad-at-requires
 quad-at-requires c κs = search needs
+
+cast-result-2 : tie.Need-cast-result-2
+cast-result-2 c = search needs
 
 returns-2 : tie.Need-returns-2
 returns-2 c = let e : c .before .before .before .before .args .k ≡ 4 = omega arith in rw e (c .quad-at .ensures .bytes)
@@ -35,8 +41,10 @@ get-be-spec =
     tie.close
     (tie.spec
     pair-at-requires
+    cast-result
     returns
     quad-at-requires
+    cast-result-2
     returns-2
     word-at-requires
     returns-3
