@@ -57,8 +57,42 @@ pub fn write_line(body: &[u8], at: usize, mark: u8, out: &mut [u8], place: usize
     }
 }
 
-// A run of fields.
-pub fn write_run(body: &[u8], at: usize, marks: &[u8], out: &mut [u8], place: usize) -> Step
+// A run of fields that are not stored: only the last one's number is taken.
+fn pass_run(body: &[u8], at: usize, marks: &[u8], place: usize) -> Step
+    requires { ⌜ Placed (now body) at place ⌝ }
+    requires { ⌜ T (marksOk (now marks)) ⌝ }
+    ensures { λ r. ⌜ ((e : ℕ) (nms : List Name) (k : ℕ → Syntax) → Ran (now (body .entry)) e (run nms 0 (now (marks .entry)) k) at place [] k [] r) ⌝ }
+    ensures { λ r. ⌜ lastOf r < 2 ^ widthOf (getD (now (marks .entry)) (length (now (marks .entry)) - 1) 0) ⌝ }
+    ensures { λ r. ⌜ Moved at place (now (marks .entry)) r ⌝ }
+{
+    let have = 8 * body.len();
+    let mut here = at;
+    let mut there = place;
+    let mut width = 0;
+    let mut i = 0;
+    while i < marks.len() {
+        let mark = marks[i];
+        width = width_of(mark);
+        if have < here + width {
+            return Step::Refused(Refusal {
+                number: 1,
+                need: here + width,
+                have,
+            });
+        }
+        here += width;
+        there += size_of(mark);
+        i += 1;
+    }
+    Step::Done {
+        at: here,
+        place: there,
+        last: value_at(body, here - width, width),
+    }
+}
+
+// A run of fields that are stored one by one.
+fn store_run(body: &[u8], at: usize, marks: &[u8], out: &mut [u8], place: usize) -> Step
     requires { ⌜ Placed (now body) at place ⌝ }
     requires { ⌜ T (marksOk (now marks)) ⌝ }
     ensures { λ r. ⌜ ((e : ℕ) (nms : List Name) (k : ℕ → Syntax) → Ran (now (body .entry)) e (run nms 0 (now (marks .entry)) k) at place (now (out .entry)) k (now (out .exit)) r) ⌝ }
@@ -89,6 +123,20 @@ pub fn write_run(body: &[u8], at: usize, marks: &[u8], out: &mut [u8], place: us
         place: there,
         last: value,
     }
+}
+
+// A run of fields.
+pub fn write_run(body: &[u8], at: usize, marks: &[u8], out: &mut [u8], place: usize) -> Step
+    requires { ⌜ Placed (now body) at place ⌝ }
+    requires { ⌜ T (marksOk (now marks)) ⌝ }
+    ensures { λ r. ⌜ ((e : ℕ) (nms : List Name) (k : ℕ → Syntax) → Ran (now (body .entry)) e (run nms 0 (now (marks .entry)) k) at place (now (out .entry)) k (now (out .exit)) r) ⌝ }
+    ensures { λ r. ⌜ lastOf r < 2 ^ widthOf (getD (now (marks .entry)) (length (now (marks .entry)) - 1) 0) ⌝ }
+    ensures { λ r. ⌜ Moved at place (now (marks .entry)) r ⌝ }
+{
+    if out.len() == 0 {
+        return pass_run(body, at, marks, place);
+    }
+    store_run(body, at, marks, out, place)
 }
 
 // A run of fields, for which so many bits must remain.
