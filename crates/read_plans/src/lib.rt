@@ -31,6 +31,9 @@ fn lay_bytes(bytes: &[u8], out: &mut [u8], at: usize)
     requires { ⌜ at + 8 * length (now bytes) ≤ 600000 ⌝ }
     ensures { λ _. ⌜ (at + 8 * length (now (bytes .entry)) ≤ 8 * length (now (out .entry)) → bitsOf (now (out .exit)) ≡ splice (bitsOf (now (out .entry))) at (bitsOf (now (bytes .entry)))) ⌝ }
 {
+    if out.len() < (at + 8 * bytes.len() + 7) / 8 {
+        return;
+    }
     let mut i: usize = 0;
     while i < bytes.len() {
         lay(out, at + 8 * i, 8, bytes[i] as u64);

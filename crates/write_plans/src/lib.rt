@@ -46,6 +46,9 @@ fn write_bits(body: &[u8], at: usize, m: usize, out: &mut [u8], place: usize)
     ensures { λ _. ⌜ (place + wholes m ≤ length (now (out .entry)) → now (out .exit) ≡ splice (now (out .entry)) place (packedBits (now (body .entry)) at m)) ⌝ }
 {
     let whole = (m + 7) / 8;
+    if out.len() < place + whole {
+        return;
+    }
     let mut i: usize = 0;
     while i < whole {
         let width = lesser(m - 8 * i, 8);

@@ -14,6 +14,18 @@ Inv-loop bytes out₀ at i₀ out i = Laying bytes at out₀ i out
 abbrev μ-loop : tie.MeasureT-loop
 μ-loop bytes out₀ at i₀ out i = length bytes - i
 
+mul-if1 : tie.Need-mul-if1 Inv-loop μ-loop
+mul-if1 c = search needs
+
+add-if1 : tie.Need-add-if1 Inv-loop μ-loop
+add-if1 c = search needs
+
+add-if1-2 : tie.Need-add-if1-2 Inv-loop μ-loop
+add-if1-2 c = search needs
+
+returns : tie.Need-returns Inv-loop μ-loop
+returns c = λ h. absurd (omega arith)
+
 loop-holds : tie.Need-loop-holds Inv-loop μ-loop
 loop-holds c = begin
 
@@ -44,8 +56,8 @@ loop-again c = more (c .before .before .before .before .before .before .loop .in
 same-length : tie.Need-same-length Inv-loop μ-loop
 same-length c = c .before .loop .inv .long
 
-returns : tie.Need-returns Inv-loop μ-loop
-returns c = laid (c .before .loop .inv) (omega arith)
+returns-2 : tie.Need-returns-2 Inv-loop μ-loop
+returns-2 c = laid (c .before .loop .inv) (omega arith)
 
 pub lay-bytes-spec : {M : Type 1} → statement M
 lay-bytes-spec =
@@ -53,6 +65,10 @@ lay-bytes-spec =
     (tie.spec
     Inv-loop
     μ-loop
+    mul-if1
+    add-if1
+    add-if1-2
+    returns
     loop-holds
     mul-lay
     add-lay
@@ -63,4 +79,4 @@ lay-bytes-spec =
     loop-less
     loop-again
     same-length
-    returns)
+    returns-2)

@@ -17,6 +17,12 @@ abbrev μ-loop : tie.MeasureT-loop
 add-whole : tie.Need-add-whole Inv-loop μ-loop
 add-whole c = search needs
 
+add-if1 : tie.Need-add-if1 Inv-loop μ-loop
+add-if1 c = search needs
+
+returns : tie.Need-returns Inv-loop μ-loop
+returns c = λ h. absurd (omega arith)
+
 loop-holds : tie.Need-loop-holds Inv-loop μ-loop
 loop-holds c = begin
 
@@ -36,7 +42,7 @@ add-value-at : tie.Need-add-value-at Inv-loop μ-loop
 add-value-at c = search needs
 
 value-at-requires : tie.Need-value-at-requires Inv-loop μ-loop
-value-at-requires c κs = (record { short = omega (arith, c .before .before .before .before .before .pre .0); fits = omega (arith, c .lesser .ensures .0, c .before .before .before .before .before .pre .1) }, omega (arith, c .lesser .ensures .1))
+value-at-requires c κs = (record { short = omega (arith, c .before .before .before .before .before .before .pre .0); fits = omega (arith, c .lesser .ensures .0, c .before .before .before .before .before .before .pre .1) }, omega (arith, c .lesser .ensures .1))
 
 add-put : tie.Need-add-put Inv-loop μ-loop
 add-put c = search needs
@@ -57,13 +63,13 @@ loop-less : tie.Need-loop-less Inv-loop μ-loop
 loop-less c = omega arith
 
 loop-again : tie.Need-loop-again Inv-loop μ-loop
-loop-again c = more (c .before .before .before .before .before .before .before .loop .inv) (c .before .before .before .before .before .before .before .before .before .before .pre .1) (omega arith) (record { most = c .before .before .before .before .before .lesser .ensures .1; small = c .before .before .before .before .before .lesser .ensures .2; big = c .before .before .before .before .before .lesser .ensures .3 }) (c .before .before .before .before .value-at .ensures) (c .before .before .put .ensures) (search needs)
+loop-again c = more (c .before .before .before .before .before .before .before .loop .inv) (c .before .before .before .before .before .before .before .before .before .before .before .pre .1) (omega arith) (record { most = c .before .before .before .before .before .lesser .ensures .1; small = c .before .before .before .before .before .lesser .ensures .2; big = c .before .before .before .before .before .lesser .ensures .3 }) (c .before .before .before .before .value-at .ensures) (c .before .before .put .ensures) (search needs)
 
 same-length : tie.Need-same-length Inv-loop μ-loop
 same-length c = c .before .loop .inv .long
 
-returns : tie.Need-returns Inv-loop μ-loop
-returns c = packed (c .before .loop .inv) (omega arith)
+returns-2 : tie.Need-returns-2 Inv-loop μ-loop
+returns-2 c = packed (c .before .loop .inv) (omega arith)
 
 pub write-bits-spec : {M : Type 1} → statement M
 write-bits-spec =
@@ -72,6 +78,8 @@ write-bits-spec =
     Inv-loop
     μ-loop
     add-whole
+    add-if1
+    returns
     loop-holds
     mul-lesser
     sub-lesser
@@ -87,4 +95,4 @@ write-bits-spec =
     loop-less
     loop-again
     same-length
-    returns)
+    returns-2)
