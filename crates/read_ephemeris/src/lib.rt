@@ -3,7 +3,7 @@ ghost use Prim.Native.Nat.{ℕ};
 ghost use Rattle.format.specs.Syntax.{Name, Syntax, end};
 ghost use Rattle.format.specs.Tables.{header, usable, metadata, covariance, ephemerides, position3};
 ghost use Rattle.read_runs.specs.Came.{LedgerPlaced, Laid};
-ghost use Rattle.read_orbits.specs.Flagged.{flagged};
+ghost use Rattle.read_ephemeris.specs.Flagged.{flagged};
 use read_runs::read_counted;
 use read_runs::read_run;
 use runs::Step;

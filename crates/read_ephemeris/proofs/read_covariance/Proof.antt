@@ -8,9 +8,9 @@ use Rattle.format.specs.Tables.{times, u}
 use Rattle.runs.specs.Lines.{run, signOf, widthOf}
 use Rattle.read_runs.proofs.CameLaws.{stay, done, stops, starts, then, when-yes, when-no, need-any}
 use Rattle.read_runs.proofs.Runs.{placed-on}
-use Rattle.read_orbits.proofs.Names as names
-use Rattle.read_orbits.proofs.read_covariance.Statement.{statement}
-use Rattle.read_orbits.proofs.read_covariance.Tie as tie
+use Rattle.read_ephemeris.proofs.Names as names
+use Rattle.read_ephemeris.proofs.read_covariance.Statement.{statement}
+use Rattle.read_ephemeris.proofs.read_covariance.Tie as tie
 
 slice-aggregate-read-run : tie.Need-slice-aggregate-read-run
 slice-aggregate-read-run c = search needs

@@ -6,10 +6,10 @@ use Rattle.format.specs.Tables.{bits, position3}
 use Rattle.runs.specs.Lines.{run, signOf, widthOf}
 use Rattle.read_runs.proofs.CameLaws.{done, stops, then, go-on}
 use Rattle.read_runs.proofs.Runs.{placed-on}
-use Rattle.read_orbits.specs.Flagged.{flagged}
-use Rattle.read_orbits.proofs.Names as names
-use Rattle.read_orbits.proofs.read_position3.Statement.{statement}
-use Rattle.read_orbits.proofs.read_position3.Tie as tie
+use Rattle.read_ephemeris.specs.Flagged.{flagged}
+use Rattle.read_ephemeris.proofs.Names as names
+use Rattle.read_ephemeris.proofs.read_position3.Statement.{statement}
+use Rattle.read_ephemeris.proofs.read_position3.Tie as tie
 
 slice-aggregate-read-run : tie.Need-slice-aggregate-read-run
 slice-aggregate-read-run c = search needs
