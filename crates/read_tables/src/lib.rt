@@ -6,19 +6,14 @@ ghost use Rattle.read_tables.specs.Lists.{lists};
 use read_runs::read_counted;
 use read_runs::read_run;
 use runs::Step;
-
-const SATELLITE: [u8; 3] = [24, 7, 1];
-
-const ORBITAL: [u8; 3] = [16, 1, 7];
-
-const ELEMENTS: [u8; 12] = [8, 16, 32, 32, 32, 32, 32, 32, 32, 32, 32, 32];
+use runs::marks;
 
 // Id 0: a satellite, with its orbital position or its elements.
 pub fn read_position(ledger: &[u8], place: usize, out: &mut [u8], at: usize) -> Step
     requires { ⌜ LedgerPlaced (now ledger) place at ⌝ }
     ensures { λ r. ⌜ Laid (now (ledger .entry)) position place at (now (out .entry)) (λ _. end) (now (out .exit)) r ⌝ }
 {
-    let head = read_run(ledger, place, &SATELLITE, out, at);
+    let head = read_run(ledger, place, &marks::SATELLITE, out, at);
     let Step::Done {
         at: a,
         place: p,
@@ -28,31 +23,17 @@ pub fn read_position(ledger: &[u8], place: usize, out: &mut [u8], at: usize) -> 
         return head;
     };
     if system == 0 {
-        return read_run(ledger, p, &ORBITAL, out, a);
+        return read_run(ledger, p, &marks::ORBITAL, out, a);
     }
-    read_run(ledger, p, &ELEMENTS, out, a)
+    read_run(ledger, p, &marks::ELEMENTS, out, a)
 }
-
-const CELL: [u8; 2] = [32, 1];
-
-const LAST: [u8; 1] = [1];
-
-const CENTRE: [u8; 7] = [4, 146, 5, 147, 24, 6, 10];
-
-const NO_CENTRE: [u8; 2] = [4, 10];
-
-const ID: [u8; 1] = [32];
-
-const COUNT: [u8; 2] = [6, 10];
-
-const SYSTEM: [u8; 4] = [32, 33, 6, 9];
 
 // Id 1: the three lists; the first one's count is known.
 fn read_lists(ledger: &[u8], place: usize, count: u64, out: &mut [u8], at: usize) -> Step
     requires { ⌜ LedgerPlaced (now ledger) place at ⌝ }
     ensures { λ r. ⌜ Laid (now (ledger .entry)) (lists count) place at (now (out .entry)) (λ _. end) (now (out .exit)) r ⌝ }
 {
-    let ids = read_counted(ledger, place, &ID, count, out, at);
+    let ids = read_counted(ledger, place, &marks::SYSTEM_ID, count, out, at);
     let Step::Done {
         at: a1,
         place: p1,
@@ -61,7 +42,7 @@ fn read_lists(ledger: &[u8], place: usize, count: u64, out: &mut [u8], at: usize
     else {
         return ids;
     };
-    let new = read_run(ledger, p1, &COUNT, out, a1);
+    let new = read_run(ledger, p1, &marks::SYSTEM_COUNT, out, a1);
     let Step::Done {
         at: a2,
         place: p2,
@@ -70,7 +51,7 @@ fn read_lists(ledger: &[u8], place: usize, count: u64, out: &mut [u8], at: usize
     else {
         return new;
     };
-    let systems = read_counted(ledger, p2, &SYSTEM, news, out, a2);
+    let systems = read_counted(ledger, p2, &marks::SYSTEM, news, out, a2);
     let Step::Done {
         at: a3,
         place: p3,
@@ -79,7 +60,7 @@ fn read_lists(ledger: &[u8], place: usize, count: u64, out: &mut [u8], at: usize
     else {
         return systems;
     };
-    let old = read_run(ledger, p3, &COUNT, out, a3);
+    let old = read_run(ledger, p3, &marks::SYSTEM_COUNT, out, a3);
     let Step::Done {
         at: a4,
         place: p4,
@@ -88,7 +69,7 @@ fn read_lists(ledger: &[u8], place: usize, count: u64, out: &mut [u8], at: usize
     else {
         return old;
     };
-    read_counted(ledger, p4, &SYSTEM, olds, out, a4)
+    read_counted(ledger, p4, &marks::SYSTEM, olds, out, a4)
 }
 
 // Id 1: a cell fragment, with its centre at the first occurrence.
@@ -96,7 +77,7 @@ pub fn read_fragment(ledger: &[u8], place: usize, out: &mut [u8], at: usize) -> 
     requires { ⌜ LedgerPlaced (now ledger) place at ⌝ }
     ensures { λ r. ⌜ Laid (now (ledger .entry)) fragment place at (now (out .entry)) (λ _. end) (now (out .exit)) r ⌝ }
 {
-    let cell = read_run(ledger, place, &CELL, out, at);
+    let cell = read_run(ledger, place, &marks::CELL, out, at);
     let Step::Done {
         at: a1,
         place: p1,
@@ -105,7 +86,7 @@ pub fn read_fragment(ledger: &[u8], place: usize, out: &mut [u8], at: usize) -> 
     else {
         return cell;
     };
-    let flag = read_run(ledger, p1, &LAST, out, a1);
+    let flag = read_run(ledger, p1, &marks::LAST, out, a1);
     let Step::Done {
         at: a2,
         place: p2,
@@ -115,7 +96,7 @@ pub fn read_fragment(ledger: &[u8], place: usize, out: &mut [u8], at: usize) -> 
         return flag;
     };
     if first == 1 {
-        let centre = read_run(ledger, p2, &CENTRE, out, a2);
+        let centre = read_run(ledger, p2, &marks::CENTRE, out, a2);
         let Step::Done {
             at: a3,
             place: p3,
@@ -126,7 +107,7 @@ pub fn read_fragment(ledger: &[u8], place: usize, out: &mut [u8], at: usize) -> 
         };
         return read_lists(ledger, p3, count, out, a3);
     }
-    let none = read_run(ledger, p2, &NO_CENTRE, out, a2);
+    let none = read_run(ledger, p2, &marks::NO_CENTRE, out, a2);
     let Step::Done {
         at: a3,
         place: p3,
@@ -138,18 +119,12 @@ pub fn read_fragment(ledger: &[u8], place: usize, out: &mut [u8], at: usize) -> 
     read_lists(ledger, p3, count, out, a3)
 }
 
-const TYPE: [u8; 1] = [4];
-
-const LEAP_TIME: [u8; 9] = [1, 1, 1, 1, 33, 6, 9, 64, 32];
-
-const TIME: [u8; 6] = [4, 33, 6, 9, 64, 32];
-
 // Id 2: a time association, with leap flags where its type is 1.
 pub fn read_association(ledger: &[u8], place: usize, out: &mut [u8], at: usize) -> Step
     requires { ⌜ LedgerPlaced (now ledger) place at ⌝ }
     ensures { λ r. ⌜ Laid (now (ledger .entry)) association place at (now (out .entry)) (λ _. end) (now (out .exit)) r ⌝ }
 {
-    let head = read_run(ledger, place, &TYPE, out, at);
+    let head = read_run(ledger, place, &marks::TYPE, out, at);
     let Step::Done {
         at: a,
         place: p,
@@ -159,7 +134,7 @@ pub fn read_association(ledger: &[u8], place: usize, out: &mut [u8], at: usize) 
         return head;
     };
     if kind == 1 {
-        return read_run(ledger, p, &LEAP_TIME, out, a);
+        return read_run(ledger, p, &marks::LEAP, out, a);
     }
-    read_run(ledger, p, &TIME, out, a)
+    read_run(ledger, p, &marks::NO_LEAP, out, a)
 }

@@ -7,22 +7,17 @@ ghost use Rattle.write_runs.specs.Went.{Placed, Ran};
 ghost use Rattle.write_tables.specs.Lists.{lists};
 use format::Refusal;
 use runs::Step;
+use runs::marks;
 use write_runs::write_counted;
 use write_runs::write_needed;
 use write_runs::write_run;
-
-const SATELLITE: [u8; 3] = [24, 7, 1];
-
-const ORBITAL: [u8; 3] = [16, 1, 7];
-
-const ELEMENTS: [u8; 12] = [8, 16, 32, 32, 32, 32, 32, 32, 32, 32, 32, 32];
 
 // Id 0: a satellite.
 pub fn write_position(body: &[u8], at: usize, out: &mut [u8], place: usize) -> Step
     requires { ⌜ Placed (now body) at place ⌝ }
     ensures { λ r. ⌜ Ran (now (body .entry)) 0 position at place (now (out .entry)) (λ _. end) (now (out .exit)) r ⌝ }
 {
-    let head = write_run(body, at, &SATELLITE, out, place);
+    let head = write_run(body, at, &marks::SATELLITE, out, place);
     let Step::Done {
         at: a,
         place: p,
@@ -32,24 +27,10 @@ pub fn write_position(body: &[u8], at: usize, out: &mut [u8], place: usize) -> S
         return head;
     };
     if system == 0 {
-        return write_needed(body, a, 3, 24, &ORBITAL, out, p);
+        return write_needed(body, a, 3, 24, &marks::ORBITAL, out, p);
     }
-    write_needed(body, a, 4, 344, &ELEMENTS, out, p)
+    write_needed(body, a, 4, 344, &marks::ELEMENTS, out, p)
 }
-
-const CELL: [u8; 2] = [32, 1];
-
-const LAST: [u8; 1] = [1];
-
-const CENTRE: [u8; 7] = [4, 146, 5, 147, 24, 6, 10];
-
-const NO_CENTRE: [u8; 2] = [4, 10];
-
-const ID: [u8; 1] = [32];
-
-const COUNT: [u8; 2] = [6, 10];
-
-const SYSTEM: [u8; 4] = [32, 33, 6, 9];
 
 // Id 1: the three lists, behind the first one's count.
 pub fn write_lists(body: &[u8], at: usize, count: u64, out: &mut [u8], place: usize) -> Step
@@ -57,7 +38,7 @@ pub fn write_lists(body: &[u8], at: usize, count: u64, out: &mut [u8], place: us
     requires { ⌜ count < 1024 ⌝ }
     ensures { λ r. ⌜ Ran (now (body .entry)) 0 (lists count) at place (now (out .entry)) (λ _. end) (now (out .exit)) r ⌝ }
 {
-    let ids = write_counted(body, at, 6, 32, &ID, count, out, place);
+    let ids = write_counted(body, at, 6, 32, &marks::SYSTEM_ID, count, out, place);
     let Step::Done {
         at: a1,
         place: p1,
@@ -66,7 +47,7 @@ pub fn write_lists(body: &[u8], at: usize, count: u64, out: &mut [u8], place: us
     else {
         return ids;
     };
-    let new = write_run(body, a1, &COUNT, out, p1);
+    let new = write_run(body, a1, &marks::SYSTEM_COUNT, out, p1);
     let Step::Done {
         at: a2,
         place: p2,
@@ -75,7 +56,7 @@ pub fn write_lists(body: &[u8], at: usize, count: u64, out: &mut [u8], place: us
     else {
         return new;
     };
-    let systems = write_counted(body, a2, 7, 80, &SYSTEM, news, out, p2);
+    let systems = write_counted(body, a2, 7, 80, &marks::SYSTEM, news, out, p2);
     let Step::Done {
         at: a3,
         place: p3,
@@ -84,7 +65,7 @@ pub fn write_lists(body: &[u8], at: usize, count: u64, out: &mut [u8], place: us
     else {
         return systems;
     };
-    let old = write_run(body, a3, &COUNT, out, p3);
+    let old = write_run(body, a3, &marks::SYSTEM_COUNT, out, p3);
     let Step::Done {
         at: a4,
         place: p4,
@@ -93,7 +74,7 @@ pub fn write_lists(body: &[u8], at: usize, count: u64, out: &mut [u8], place: us
     else {
         return old;
     };
-    write_counted(body, a4, 8, 80, &SYSTEM, olds, out, p4)
+    write_counted(body, a4, 8, 80, &marks::SYSTEM, olds, out, p4)
 }
 
 // Id 1: a cell fragment.
@@ -101,7 +82,7 @@ pub fn write_fragment(body: &[u8], at: usize, out: &mut [u8], place: usize) -> S
     requires { ⌜ Placed (now body) at place ⌝ }
     ensures { λ r. ⌜ Ran (now (body .entry)) 0 fragment at place (now (out .entry)) (λ _. end) (now (out .exit)) r ⌝ }
 {
-    let cell = write_run(body, at, &CELL, out, place);
+    let cell = write_run(body, at, &marks::CELL, out, place);
     let Step::Done {
         at: a1,
         place: p1,
@@ -110,7 +91,7 @@ pub fn write_fragment(body: &[u8], at: usize, out: &mut [u8], place: usize) -> S
     else {
         return cell;
     };
-    let flag = write_run(body, a1, &LAST, out, p1);
+    let flag = write_run(body, a1, &marks::LAST, out, p1);
     let Step::Done {
         at: a2,
         place: p2,
@@ -120,7 +101,7 @@ pub fn write_fragment(body: &[u8], at: usize, out: &mut [u8], place: usize) -> S
         return flag;
     };
     if first == 1 {
-        let centre = write_needed(body, a2, 5, 76, &CENTRE, out, p2);
+        let centre = write_needed(body, a2, 5, 76, &marks::CENTRE, out, p2);
         let Step::Done {
             at: a3,
             place: p3,
@@ -131,7 +112,7 @@ pub fn write_fragment(body: &[u8], at: usize, out: &mut [u8], place: usize) -> S
         };
         return write_lists(body, a3, count, out, p3);
     }
-    let none = write_run(body, a2, &NO_CENTRE, out, p2);
+    let none = write_run(body, a2, &marks::NO_CENTRE, out, p2);
     let Step::Done {
         at: a3,
         place: p3,
@@ -142,12 +123,6 @@ pub fn write_fragment(body: &[u8], at: usize, out: &mut [u8], place: usize) -> S
     };
     write_lists(body, a3, count, out, p3)
 }
-
-const TYPE: [u8; 1] = [4];
-
-const LEAP: [u8; 9] = [1, 1, 1, 1, 33, 6, 9, 64, 32];
-
-const NO_LEAP: [u8; 6] = [4, 33, 6, 9, 64, 32];
 
 // Id 2: a time association.
 pub fn write_association(body: &[u8], at: usize, out: &mut [u8], place: usize) -> Step
@@ -162,7 +137,7 @@ pub fn write_association(body: &[u8], at: usize, out: &mut [u8], place: usize) -
             have,
         });
     }
-    let kind = write_needed(body, at, 9, 152, &TYPE, out, place);
+    let kind = write_needed(body, at, 9, 152, &marks::TYPE, out, place);
     let Step::Done {
         at: a,
         place: p,
@@ -172,7 +147,7 @@ pub fn write_association(body: &[u8], at: usize, out: &mut [u8], place: usize) -
         return kind;
     };
     if association_type == 1 {
-        return write_run(body, a, &LEAP, out, p);
+        return write_run(body, a, &marks::LEAP, out, p);
     }
-    write_run(body, a, &NO_LEAP, out, p)
+    write_run(body, a, &marks::NO_LEAP, out, p)
 }

@@ -9,7 +9,7 @@ use Rattle.format.specs.Tables.{bits, metadata, ephemerides}
 use Rattle.runs.specs.Lines.{run, signOf, widthOf}
 use Rattle.read_runs.proofs.CameLaws.{done, stops, starts, then, go-on, when-yes, when-no}
 use Rattle.read_runs.proofs.Runs.{placed-on}
-use Rattle.read_ephemeris.proofs.Names as names
+use Rattle.runs.proofs.Names as names
 use Rattle.read_ephemeris.proofs.read_flagged.Statement.{statement}
 use Rattle.read_ephemeris.proofs.read_flagged.Tie as tie
 

@@ -5,7 +5,7 @@ use borrow.Author.Tests.{eq-eqb, ne-eqb}
 use mathlib.Core.List.{[]}
 use Rattle.runs.specs.Lines.{run, signOf, widthOf}
 use Rattle.read_runs.proofs.CameLaws.{stay, starts, when-yes, when-no, need-any}
-use Rattle.read_ephemeris.proofs.Names as names
+use Rattle.runs.proofs.Names as names
 use Rattle.read_ephemeris.proofs.read_usable.Statement.{statement}
 use Rattle.read_ephemeris.proofs.read_usable.Tie as tie
 
