@@ -41,24 +41,14 @@ fn read_metadata(
     ensures { λ r. ⌜ ((s : Syntax) → Laid (now (ledger .entry)) (metadata start stop s) place at (now (out .entry)) (λ _. s) (now (out .exit)) r) ⌝ }
 {
     let times = read_run(ledger, place, &marks::METADATA, out, at);
-    let Step::Done {
-        at: a1,
-        place: p1,
-        last: _,
-    } = times
-    else {
+    let Step::Done { at, place, .. } = times else {
         return times;
     };
-    let first = read_usable(ledger, p1, start, out, a1);
-    let Step::Done {
-        at: a2,
-        place: p2,
-        last: _,
-    } = first
-    else {
+    let first = read_usable(ledger, place, start, out, at);
+    let Step::Done { at, place, .. } = first else {
         return first;
     };
-    read_usable(ledger, p2, stop, out, a2)
+    read_usable(ledger, place, stop, out, at)
 }
 
 // The covariance, where its flag is set: a stamp and 21 values.
@@ -86,35 +76,25 @@ fn read_ephemerides(
 {
     let head = read_run(ledger, place, &marks::EPHEMERIS_COUNT, out, at);
     let Step::Done {
-        at: a1,
-        place: p1,
+        at,
+        place,
         last: count,
     } = head
     else {
         return head;
     };
     if accel == 1 {
-        let moved = read_counted(ledger, p1, &marks::ACCELERATED, count, out, a1);
-        let Step::Done {
-            at: a2,
-            place: p2,
-            last: _,
-        } = moved
-        else {
+        let moved = read_counted(ledger, place, &marks::ACCELERATED, count, out, at);
+        let Step::Done { at, place, .. } = moved else {
             return moved;
         };
-        return read_covariance(ledger, p2, cov, out, a2);
+        return read_covariance(ledger, place, cov, out, at);
     }
-    let still = read_counted(ledger, p1, &marks::MOTION, count, out, a1);
-    let Step::Done {
-        at: a2,
-        place: p2,
-        last: _,
-    } = still
-    else {
+    let still = read_counted(ledger, place, &marks::MOTION, count, out, at);
+    let Step::Done { at, place, .. } = still else {
         return still;
     };
-    read_covariance(ledger, p2, cov, out, a2)
+    read_covariance(ledger, place, cov, out, at)
 }
 
 // The last two flags, the metadata if there is one, and the ephemeris entries.
@@ -132,35 +112,30 @@ fn read_flagged(
 {
     let fourth = read_run(ledger, place, &marks::FLAG, out, at);
     let Step::Done {
-        at: a1,
-        place: p1,
+        at,
+        place,
         last: accel,
     } = fourth
     else {
         return fourth;
     };
-    let fifth = read_run(ledger, p1, &marks::FLAG, out, a1);
+    let fifth = read_run(ledger, place, &marks::FLAG, out, at);
     let Step::Done {
-        at: a2,
-        place: p2,
+        at,
+        place,
         last: cov,
     } = fifth
     else {
         return fifth;
     };
     if meta == 1 {
-        let about = read_metadata(ledger, p2, start, stop, out, a2);
-        let Step::Done {
-            at: a3,
-            place: p3,
-            last: _,
-        } = about
-        else {
+        let about = read_metadata(ledger, place, start, stop, out, at);
+        let Step::Done { at, place, .. } = about else {
             return about;
         };
-        return read_ephemerides(ledger, p3, accel, cov, out, a3);
+        return read_ephemerides(ledger, place, accel, cov, out, at);
     }
-    read_ephemerides(ledger, p2, accel, cov, out, a2)
+    read_ephemerides(ledger, place, accel, cov, out, at)
 }
 
 // A satellite's entry. Each flag is a run of its own, since what follows asks for all of them.
@@ -170,30 +145,30 @@ pub fn read_position3(ledger: &[u8], place: usize, out: &mut [u8], at: usize) ->
 {
     let head = read_run(ledger, place, &marks::SATELLITE3, out, at);
     let Step::Done {
-        at: a1,
-        place: p1,
+        at,
+        place,
         last: meta,
     } = head
     else {
         return head;
     };
-    let second = read_run(ledger, p1, &marks::FLAG, out, a1);
+    let second = read_run(ledger, place, &marks::FLAG, out, at);
     let Step::Done {
-        at: a2,
-        place: p2,
+        at,
+        place,
         last: start,
     } = second
     else {
         return second;
     };
-    let third = read_run(ledger, p2, &marks::FLAG, out, a2);
+    let third = read_run(ledger, place, &marks::FLAG, out, at);
     let Step::Done {
-        at: a3,
-        place: p3,
+        at,
+        place,
         last: stop,
     } = third
     else {
         return third;
     };
-    read_flagged(ledger, p3, meta, start, stop, out, a3)
+    read_flagged(ledger, place, meta, start, stop, out, at)
 }

@@ -95,23 +95,18 @@ fn read_bitmap(ledger: &[u8], place: usize, out: &mut [u8], at: usize) -> Step
 {
     let size = read_run(ledger, place, &marks::SLOT, out, at);
     let Step::Done {
-        at: a1,
-        place: p1,
+        at,
+        place,
         last: slots,
     } = size
     else {
         return size;
     };
-    let current = read_run(ledger, p1, &marks::SLOT, out, a1);
-    let Step::Done {
-        at: a2,
-        place: p2,
-        last: _,
-    } = current
-    else {
+    let current = read_run(ledger, place, &marks::SLOT, out, at);
+    let Step::Done { at, place, .. } = current else {
         return current;
     };
-    read_slots(ledger, p2, slots as usize, out, a2)
+    read_slots(ledger, place, slots as usize, out, at)
 }
 
 // The fields of a plan's mode, by its number.
@@ -139,23 +134,18 @@ fn read_hopping(ledger: &[u8], place: usize, out: &mut [u8], at: usize) -> Step
 {
     let head = read_run(ledger, place, &marks::MODE, out, at);
     let Step::Done {
-        at: a1,
-        place: p1,
+        at,
+        place,
         last: kind,
     } = head
     else {
         return head;
     };
-    let clocks = read_run(ledger, p1, &marks::CLOCKS, out, a1);
-    let Step::Done {
-        at: a2,
-        place: p2,
-        last: _,
-    } = clocks
-    else {
+    let clocks = read_run(ledger, place, &marks::CLOCKS, out, at);
+    let Step::Done { at, place, .. } = clocks else {
         return clocks;
     };
-    read_mode(ledger, p2, kind, out, a2)
+    read_mode(ledger, place, kind, out, at)
 }
 
 // A plan. Its length is not in the ledger: it is stored once the fields that it counts are laid.

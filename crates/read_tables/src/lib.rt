@@ -15,17 +15,17 @@ pub fn read_position(ledger: &[u8], place: usize, out: &mut [u8], at: usize) -> 
 {
     let head = read_run(ledger, place, &marks::SATELLITE, out, at);
     let Step::Done {
-        at: a,
-        place: p,
+        at,
+        place,
         last: system,
     } = head
     else {
         return head;
     };
     if system == 0 {
-        return read_run(ledger, p, &marks::ORBITAL, out, a);
+        return read_run(ledger, place, &marks::ORBITAL, out, at);
     }
-    read_run(ledger, p, &marks::ELEMENTS, out, a)
+    read_run(ledger, place, &marks::ELEMENTS, out, at)
 }
 
 // Id 1: the three lists; the first one's count is known.
@@ -34,42 +34,32 @@ fn read_lists(ledger: &[u8], place: usize, count: u64, out: &mut [u8], at: usize
     ensures { λ r. ⌜ Laid (now (ledger .entry)) (lists count) place at (now (out .entry)) (λ _. end) (now (out .exit)) r ⌝ }
 {
     let ids = read_counted(ledger, place, &marks::SYSTEM_ID, count, out, at);
-    let Step::Done {
-        at: a1,
-        place: p1,
-        last: _,
-    } = ids
-    else {
+    let Step::Done { at, place, .. } = ids else {
         return ids;
     };
-    let new = read_run(ledger, p1, &marks::SYSTEM_COUNT, out, a1);
+    let new = read_run(ledger, place, &marks::SYSTEM_COUNT, out, at);
     let Step::Done {
-        at: a2,
-        place: p2,
+        at,
+        place,
         last: news,
     } = new
     else {
         return new;
     };
-    let systems = read_counted(ledger, p2, &marks::SYSTEM, news, out, a2);
-    let Step::Done {
-        at: a3,
-        place: p3,
-        last: _,
-    } = systems
-    else {
+    let systems = read_counted(ledger, place, &marks::SYSTEM, news, out, at);
+    let Step::Done { at, place, .. } = systems else {
         return systems;
     };
-    let old = read_run(ledger, p3, &marks::SYSTEM_COUNT, out, a3);
+    let old = read_run(ledger, place, &marks::SYSTEM_COUNT, out, at);
     let Step::Done {
-        at: a4,
-        place: p4,
+        at,
+        place,
         last: olds,
     } = old
     else {
         return old;
     };
-    read_counted(ledger, p4, &marks::SYSTEM, olds, out, a4)
+    read_counted(ledger, place, &marks::SYSTEM, olds, out, at)
 }
 
 // Id 1: a cell fragment, with its centre at the first occurrence.
@@ -79,44 +69,39 @@ pub fn read_fragment(ledger: &[u8], place: usize, out: &mut [u8], at: usize) -> 
 {
     let cell = read_run(ledger, place, &marks::CELL, out, at);
     let Step::Done {
-        at: a1,
-        place: p1,
+        at,
+        place,
         last: first,
     } = cell
     else {
         return cell;
     };
-    let flag = read_run(ledger, p1, &marks::LAST, out, a1);
-    let Step::Done {
-        at: a2,
-        place: p2,
-        last: _,
-    } = flag
-    else {
+    let flag = read_run(ledger, place, &marks::LAST, out, at);
+    let Step::Done { at, place, .. } = flag else {
         return flag;
     };
     if first == 1 {
-        let centre = read_run(ledger, p2, &marks::CENTRE, out, a2);
+        let centre = read_run(ledger, place, &marks::CENTRE, out, at);
         let Step::Done {
-            at: a3,
-            place: p3,
+            at,
+            place,
             last: count,
         } = centre
         else {
             return centre;
         };
-        return read_lists(ledger, p3, count, out, a3);
+        return read_lists(ledger, place, count, out, at);
     }
-    let none = read_run(ledger, p2, &marks::NO_CENTRE, out, a2);
+    let none = read_run(ledger, place, &marks::NO_CENTRE, out, at);
     let Step::Done {
-        at: a3,
-        place: p3,
+        at,
+        place,
         last: count,
     } = none
     else {
         return none;
     };
-    read_lists(ledger, p3, count, out, a3)
+    read_lists(ledger, place, count, out, at)
 }
 
 // Id 2: a time association, with leap flags where its type is 1.
@@ -126,15 +111,15 @@ pub fn read_association(ledger: &[u8], place: usize, out: &mut [u8], at: usize) 
 {
     let head = read_run(ledger, place, &marks::TYPE, out, at);
     let Step::Done {
-        at: a,
-        place: p,
+        at,
+        place,
         last: kind,
     } = head
     else {
         return head;
     };
     if kind == 1 {
-        return read_run(ledger, p, &marks::LEAP, out, a);
+        return read_run(ledger, place, &marks::LEAP, out, at);
     }
-    read_run(ledger, p, &marks::NO_LEAP, out, a)
+    read_run(ledger, place, &marks::NO_LEAP, out, at)
 }

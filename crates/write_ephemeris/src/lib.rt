@@ -58,24 +58,14 @@ pub fn write_metadata(
     ensures { λ r. ⌜ ((s : Syntax) → Ran (now (body .entry)) 0 (metadata start stop s) at place (now (out .entry)) (λ _. s) (now (out .exit)) r) ⌝ }
 {
     let fixed = write_needed(body, at, 16, 120, &marks::METADATA, out, place);
-    let Step::Done {
-        at: a1,
-        place: p1,
-        last: _,
-    } = fixed
-    else {
+    let Step::Done { at, place, .. } = fixed else {
         return fixed;
     };
-    let from = write_usable(body, a1, 17, start, out, p1);
-    let Step::Done {
-        at: a2,
-        place: p2,
-        last: _,
-    } = from
-    else {
+    let from = write_usable(body, at, 17, start, out, place);
+    let Step::Done { at, place, .. } = from else {
         return from;
     };
-    write_usable(body, a2, 18, stop, out, p2)
+    write_usable(body, at, 18, stop, out, place)
 }
 
 // One ephemeris entry, tested by itself.
@@ -106,16 +96,11 @@ pub fn write_each(
     let mut i: u64 = 0;
     while i < count {
         let step = write_entry(body, here, accel, out, there);
-        let Step::Done {
-            at: a,
-            place: p,
-            last: _,
-        } = step
-        else {
+        let Step::Done { at, place, .. } = step else {
             return step;
         };
-        here = a;
-        there = p;
+        here = at;
+        there = place;
         i += 1;
     }
     Step::Done {
@@ -139,30 +124,21 @@ pub fn write_ephemerides(
 {
     let number = write_run(body, at, &marks::EPHEMERIS_COUNT, out, place);
     let Step::Done {
-        at: a1,
-        place: p1,
+        at,
+        place,
         last: count,
     } = number
     else {
         return number;
     };
-    let each = write_each(body, a1, accel, count, out, p1);
-    let Step::Done {
-        at: a2,
-        place: p2,
-        last: _,
-    } = each
-    else {
+    let each = write_each(body, at, accel, count, out, place);
+    let Step::Done { at, place, .. } = each else {
         return each;
     };
     if cov == 1 {
-        return write_needed(body, a2, 20, 728, &marks::COVARIANCE, out, p2);
+        return write_needed(body, at, 20, 728, &marks::COVARIANCE, out, place);
     }
-    Step::Done {
-        at: a2,
-        place: p2,
-        last: 0,
-    }
+    Step::Done { at, place, last: 0 }
 }
 
 // What follows a satellite's flags.
@@ -182,15 +158,10 @@ pub fn write_flagged(
 {
     if meta == 1 {
         let known = write_metadata(body, at, start, stop, out, place);
-        let Step::Done {
-            at: a,
-            place: p,
-            last: _,
-        } = known
-        else {
+        let Step::Done { at, place, .. } = known else {
             return known;
         };
-        return write_ephemerides(body, a, accel, cov, out, p);
+        return write_ephemerides(body, at, accel, cov, out, place);
     }
     write_ephemerides(body, at, accel, cov, out, place)
 }
@@ -209,32 +180,32 @@ pub fn write_unflagged(
 {
     let third = write_run(body, at, &marks::FLAG, out, place);
     let Step::Done {
-        at: a1,
-        place: p1,
+        at,
+        place,
         last: stop,
     } = third
     else {
         return third;
     };
-    let fourth = write_run(body, a1, &marks::FLAG, out, p1);
+    let fourth = write_run(body, at, &marks::FLAG, out, place);
     let Step::Done {
-        at: a2,
-        place: p2,
+        at,
+        place,
         last: accel,
     } = fourth
     else {
         return fourth;
     };
-    let fifth = write_run(body, a2, &marks::FLAG, out, p2);
+    let fifth = write_run(body, at, &marks::FLAG, out, place);
     let Step::Done {
-        at: a3,
-        place: p3,
+        at,
+        place,
         last: cov,
     } = fifth
     else {
         return fifth;
     };
-    write_flagged(body, a3, meta, start, stop, accel, cov, out, p3)
+    write_flagged(body, at, meta, start, stop, accel, cov, out, place)
 }
 
 // A satellite.
@@ -244,21 +215,21 @@ pub fn write_position3(body: &[u8], at: usize, out: &mut [u8], place: usize) -> 
 {
     let first = write_run(body, at, &marks::SATELLITE3, out, place);
     let Step::Done {
-        at: a1,
-        place: p1,
+        at,
+        place,
         last: meta,
     } = first
     else {
         return first;
     };
-    let second = write_run(body, a1, &marks::FLAG, out, p1);
+    let second = write_run(body, at, &marks::FLAG, out, place);
     let Step::Done {
-        at: a2,
-        place: p2,
+        at,
+        place,
         last: start,
     } = second
     else {
         return second;
     };
-    write_unflagged(body, a2, meta, start, out, p2)
+    write_unflagged(body, at, meta, start, out, place)
 }

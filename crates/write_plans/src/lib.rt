@@ -104,23 +104,18 @@ fn write_bitmap(body: &[u8], at: usize, out: &mut [u8], place: usize) -> Step
 {
     let size = write_needed(body, at, 11, 32, &marks::SLOT, out, place);
     let Step::Done {
-        at: a1,
-        place: p1,
+        at,
+        place,
         last: slots,
     } = size
     else {
         return size;
     };
-    let current = write_run(body, a1, &marks::SLOT, out, p1);
-    let Step::Done {
-        at: a2,
-        place: p2,
-        last: _,
-    } = current
-    else {
+    let current = write_run(body, at, &marks::SLOT, out, place);
+    let Step::Done { at, place, .. } = current else {
         return current;
     };
-    write_slots(body, a2, slots as usize, out, p2)
+    write_slots(body, at, slots as usize, out, place)
 }
 
 // The fields of a plan's mode, by its number.
@@ -149,23 +144,18 @@ fn write_hopping(body: &[u8], at: usize, stop: usize, out: &mut [u8], place: usi
 {
     let head = write_run(body, at, &marks::MODE, out, place);
     let Step::Done {
-        at: a1,
-        place: p1,
+        at,
+        place,
         last: kind,
     } = head
     else {
         return head;
     };
-    let clocks = write_run(body, a1, &marks::CLOCKS, out, p1);
-    let Step::Done {
-        at: a2,
-        place: p2,
-        last: _,
-    } = clocks
-    else {
+    let clocks = write_run(body, at, &marks::CLOCKS, out, place);
+    let Step::Done { at, place, .. } = clocks else {
         return clocks;
     };
-    write_mode(body, a2, stop, kind, out, p2)
+    write_mode(body, at, stop, kind, out, place)
 }
 
 // A plan's length and what it is the length of. The next place is the plan's end, or the data's if that comes first.
@@ -214,13 +204,8 @@ pub fn write_plan(body: &[u8], at: usize, out: &mut [u8], place: usize) -> Step
     ensures { λ r. ⌜ Ran (now (body .entry)) 0 beamhopping at place (now (out .entry)) (λ _. end) (now (out .exit)) r ⌝ }
 {
     let head = write_run(body, at, &marks::PLAN, out, place);
-    let Step::Done {
-        at: a,
-        place: p,
-        last: _,
-    } = head
-    else {
+    let Step::Done { at, place, .. } = head else {
         return head;
     };
-    write_ended(body, a, out, p)
+    write_ended(body, at, out, place)
 }

@@ -19,17 +19,17 @@ pub fn write_position(body: &[u8], at: usize, out: &mut [u8], place: usize) -> S
 {
     let head = write_run(body, at, &marks::SATELLITE, out, place);
     let Step::Done {
-        at: a,
-        place: p,
+        at,
+        place,
         last: system,
     } = head
     else {
         return head;
     };
     if system == 0 {
-        return write_needed(body, a, 3, 24, &marks::ORBITAL, out, p);
+        return write_needed(body, at, 3, 24, &marks::ORBITAL, out, place);
     }
-    write_needed(body, a, 4, 344, &marks::ELEMENTS, out, p)
+    write_needed(body, at, 4, 344, &marks::ELEMENTS, out, place)
 }
 
 // Id 1: the three lists, behind the first one's count.
@@ -39,42 +39,32 @@ pub fn write_lists(body: &[u8], at: usize, count: u64, out: &mut [u8], place: us
     ensures { λ r. ⌜ Ran (now (body .entry)) 0 (lists count) at place (now (out .entry)) (λ _. end) (now (out .exit)) r ⌝ }
 {
     let ids = write_counted(body, at, 6, 32, &marks::SYSTEM_ID, count, out, place);
-    let Step::Done {
-        at: a1,
-        place: p1,
-        last: _,
-    } = ids
-    else {
+    let Step::Done { at, place, .. } = ids else {
         return ids;
     };
-    let new = write_run(body, a1, &marks::SYSTEM_COUNT, out, p1);
+    let new = write_run(body, at, &marks::SYSTEM_COUNT, out, place);
     let Step::Done {
-        at: a2,
-        place: p2,
+        at,
+        place,
         last: news,
     } = new
     else {
         return new;
     };
-    let systems = write_counted(body, a2, 7, 80, &marks::SYSTEM, news, out, p2);
-    let Step::Done {
-        at: a3,
-        place: p3,
-        last: _,
-    } = systems
-    else {
+    let systems = write_counted(body, at, 7, 80, &marks::SYSTEM, news, out, place);
+    let Step::Done { at, place, .. } = systems else {
         return systems;
     };
-    let old = write_run(body, a3, &marks::SYSTEM_COUNT, out, p3);
+    let old = write_run(body, at, &marks::SYSTEM_COUNT, out, place);
     let Step::Done {
-        at: a4,
-        place: p4,
+        at,
+        place,
         last: olds,
     } = old
     else {
         return old;
     };
-    write_counted(body, a4, 8, 80, &marks::SYSTEM, olds, out, p4)
+    write_counted(body, at, 8, 80, &marks::SYSTEM, olds, out, place)
 }
 
 // Id 1: a cell fragment.
@@ -84,44 +74,39 @@ pub fn write_fragment(body: &[u8], at: usize, out: &mut [u8], place: usize) -> S
 {
     let cell = write_run(body, at, &marks::CELL, out, place);
     let Step::Done {
-        at: a1,
-        place: p1,
+        at,
+        place,
         last: first,
     } = cell
     else {
         return cell;
     };
-    let flag = write_run(body, a1, &marks::LAST, out, p1);
-    let Step::Done {
-        at: a2,
-        place: p2,
-        last: _,
-    } = flag
-    else {
+    let flag = write_run(body, at, &marks::LAST, out, place);
+    let Step::Done { at, place, .. } = flag else {
         return flag;
     };
     if first == 1 {
-        let centre = write_needed(body, a2, 5, 76, &marks::CENTRE, out, p2);
+        let centre = write_needed(body, at, 5, 76, &marks::CENTRE, out, place);
         let Step::Done {
-            at: a3,
-            place: p3,
+            at,
+            place,
             last: count,
         } = centre
         else {
             return centre;
         };
-        return write_lists(body, a3, count, out, p3);
+        return write_lists(body, at, count, out, place);
     }
-    let none = write_run(body, a2, &marks::NO_CENTRE, out, p2);
+    let none = write_run(body, at, &marks::NO_CENTRE, out, place);
     let Step::Done {
-        at: a3,
-        place: p3,
+        at,
+        place,
         last: count,
     } = none
     else {
         return none;
     };
-    write_lists(body, a3, count, out, p3)
+    write_lists(body, at, count, out, place)
 }
 
 // Id 2: a time association.
@@ -139,15 +124,15 @@ pub fn write_association(body: &[u8], at: usize, out: &mut [u8], place: usize) -
     }
     let kind = write_needed(body, at, 9, 152, &marks::TYPE, out, place);
     let Step::Done {
-        at: a,
-        place: p,
+        at,
+        place,
         last: association_type,
     } = kind
     else {
         return kind;
     };
     if association_type == 1 {
-        return write_run(body, a, &marks::LEAP, out, p);
+        return write_run(body, at, &marks::LEAP, out, place);
     }
-    write_run(body, a, &marks::NO_LEAP, out, p)
+    write_run(body, at, &marks::NO_LEAP, out, place)
 }
