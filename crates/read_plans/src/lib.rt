@@ -13,18 +13,7 @@ use format::Refusal;
 use read_runs::lay;
 use read_runs::read_run;
 use runs::Step;
-
-// A plan's first fields, those in front of its clocks, and the clocks by twos and by fours.
-const PLAN: [u8; 2] = [32, 4];
-
-const MODE: [u8; 2] = [6, 2];
-
-const CLOCKS: [u8; 6] = [33, 6, 9, 33, 6, 9];
-
-const GRID: [u8; 12] = [33, 6, 9, 33, 6, 9, 33, 6, 9, 33, 6, 9];
-
-// Either number of slots: the size of the map, the current slot.
-const SLOT: [u8; 2] = [1, 15];
+use runs::marks;
 
 // Stores bytes at a bit place where there is room for them.
 fn lay_bytes(bytes: &[u8], out: &mut [u8], at: usize)
@@ -107,25 +96,20 @@ fn read_bitmap(ledger: &[u8], place: usize, out: &mut [u8], at: usize) -> Step
     requires { ⌜ LedgerPlaced (now ledger) place at ⌝ }
     ensures { λ r. ⌜ Laid (now (ledger .entry)) bitmap place at (now (out .entry)) (λ _. end) (now (out .exit)) r ⌝ }
 {
-    let size = read_run(ledger, place, &SLOT, out, at);
+    let size = read_run(ledger, place, &marks::SLOT, out, at);
     let Step::Done {
-        at: a1,
-        place: p1,
+        at,
+        place,
         last: slots,
     } = size
     else {
         return size;
     };
-    let current = read_run(ledger, p1, &SLOT, out, a1);
-    let Step::Done {
-        at: a2,
-        place: p2,
-        last: _,
-    } = current
-    else {
+    let current = read_run(ledger, place, &marks::SLOT, out, at);
+    let Step::Done { at, place, .. } = current else {
         return current;
     };
-    read_slots(ledger, p2, slots as usize, out, a2)
+    read_slots(ledger, place, slots as usize, out, at)
 }
 
 // The fields of a plan's mode, by its number.
@@ -134,13 +118,13 @@ fn read_mode(ledger: &[u8], place: usize, kind: u64, out: &mut [u8], at: usize) 
     ensures { λ r. ⌜ Laid (now (ledger .entry)) (mode kind) place at (now (out .entry)) (λ _. end) (now (out .exit)) r ⌝ }
 {
     if kind == 0 {
-        return read_run(ledger, place, &CLOCKS, out, at);
+        return read_run(ledger, place, &marks::CLOCKS, out, at);
     }
     if kind == 1 {
         return read_bitmap(ledger, place, out, at);
     }
     if kind == 2 {
-        return read_run(ledger, place, &GRID, out, at);
+        return read_run(ledger, place, &marks::GRID, out, at);
     }
     read_raw(ledger, place, out, at)
 }
@@ -151,25 +135,20 @@ fn read_hopping(ledger: &[u8], place: usize, out: &mut [u8], at: usize) -> Step
     ensures { λ r. ⌜ Laid (now (ledger .entry)) hopping place at (now (out .entry)) (λ _. end) (now (out .exit)) r ⌝ }
     ensures { λ r. ⌜ Spared place at r ⌝ }
 {
-    let head = read_run(ledger, place, &MODE, out, at);
+    let head = read_run(ledger, place, &marks::MODE, out, at);
     let Step::Done {
-        at: a1,
-        place: p1,
+        at,
+        place,
         last: kind,
     } = head
     else {
         return head;
     };
-    let clocks = read_run(ledger, p1, &CLOCKS, out, a1);
-    let Step::Done {
-        at: a2,
-        place: p2,
-        last: _,
-    } = clocks
-    else {
+    let clocks = read_run(ledger, place, &marks::CLOCKS, out, at);
+    let Step::Done { at, place, .. } = clocks else {
         return clocks;
     };
-    read_mode(ledger, p2, kind, out, a2)
+    read_mode(ledger, place, kind, out, at)
 }
 
 // A plan. Its length is not in the ledger: it is stored once the fields that it counts are laid.
@@ -177,7 +156,7 @@ pub fn read_plan(ledger: &[u8], place: usize, out: &mut [u8], at: usize) -> Step
     requires { ⌜ LedgerPlaced (now ledger) place (at + 8) ⌝ }
     ensures { λ r. ⌜ Taken (now (ledger .entry)) beamhopping place at (now (out .entry)) (now (out .exit)) r ⌝ }
 {
-    let head = read_run(ledger, place, &PLAN, out, at);
+    let head = read_run(ledger, place, &marks::PLAN, out, at);
     let Step::Done {
         at: a1,
         place: p1,

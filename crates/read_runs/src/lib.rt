@@ -76,16 +76,11 @@ pub fn read_run(ledger: &[u8], place: usize, marks: &[u8], out: &mut [u8], at: u
     let mut i = 0;
     while i < marks.len() {
         let step = read_line(ledger, there, marks[i], out, here);
-        let Step::Done {
-            at: a,
-            place: p,
-            last,
-        } = step
-        else {
+        let Step::Done { at, place, last } = step else {
             return step;
         };
-        here = a;
-        there = p;
+        here = at;
+        there = place;
         value = last;
         i += 1;
     }
@@ -114,16 +109,11 @@ pub fn read_counted(
     let mut i: u64 = 0;
     while i < count {
         let step = read_run(ledger, there, marks, out, here);
-        let Step::Done {
-            at: a,
-            place: p,
-            last: _,
-        } = step
-        else {
+        let Step::Done { at, place, .. } = step else {
             return step;
         };
-        here = a;
-        there = p;
+        here = at;
+        there = place;
         i += 1;
     }
     Step::Done {

@@ -6,89 +6,60 @@ ghost use Rattle.read_tables.specs.Lists.{lists};
 use read_runs::read_counted;
 use read_runs::read_run;
 use runs::Step;
-
-const SATELLITE: [u8; 3] = [24, 7, 1];
-
-const ORBITAL: [u8; 3] = [16, 1, 7];
-
-const ELEMENTS: [u8; 12] = [8, 16, 32, 32, 32, 32, 32, 32, 32, 32, 32, 32];
+use runs::marks;
 
 // Id 0: a satellite, with its orbital position or its elements.
 pub fn read_position(ledger: &[u8], place: usize, out: &mut [u8], at: usize) -> Step
     requires { ⌜ LedgerPlaced (now ledger) place at ⌝ }
     ensures { λ r. ⌜ Laid (now (ledger .entry)) position place at (now (out .entry)) (λ _. end) (now (out .exit)) r ⌝ }
 {
-    let head = read_run(ledger, place, &SATELLITE, out, at);
+    let head = read_run(ledger, place, &marks::SATELLITE, out, at);
     let Step::Done {
-        at: a,
-        place: p,
+        at,
+        place,
         last: system,
     } = head
     else {
         return head;
     };
     if system == 0 {
-        return read_run(ledger, p, &ORBITAL, out, a);
+        return read_run(ledger, place, &marks::ORBITAL, out, at);
     }
-    read_run(ledger, p, &ELEMENTS, out, a)
+    read_run(ledger, place, &marks::ELEMENTS, out, at)
 }
-
-const CELL: [u8; 2] = [32, 1];
-
-const LAST: [u8; 1] = [1];
-
-const CENTRE: [u8; 7] = [4, 146, 5, 147, 24, 6, 10];
-
-const NO_CENTRE: [u8; 2] = [4, 10];
-
-const ID: [u8; 1] = [32];
-
-const COUNT: [u8; 2] = [6, 10];
-
-const SYSTEM: [u8; 4] = [32, 33, 6, 9];
 
 // Id 1: the three lists; the first one's count is known.
 fn read_lists(ledger: &[u8], place: usize, count: u64, out: &mut [u8], at: usize) -> Step
     requires { ⌜ LedgerPlaced (now ledger) place at ⌝ }
     ensures { λ r. ⌜ Laid (now (ledger .entry)) (lists count) place at (now (out .entry)) (λ _. end) (now (out .exit)) r ⌝ }
 {
-    let ids = read_counted(ledger, place, &ID, count, out, at);
-    let Step::Done {
-        at: a1,
-        place: p1,
-        last: _,
-    } = ids
-    else {
+    let ids = read_counted(ledger, place, &marks::SYSTEM_ID, count, out, at);
+    let Step::Done { at, place, .. } = ids else {
         return ids;
     };
-    let new = read_run(ledger, p1, &COUNT, out, a1);
+    let new = read_run(ledger, place, &marks::SYSTEM_COUNT, out, at);
     let Step::Done {
-        at: a2,
-        place: p2,
+        at,
+        place,
         last: news,
     } = new
     else {
         return new;
     };
-    let systems = read_counted(ledger, p2, &SYSTEM, news, out, a2);
-    let Step::Done {
-        at: a3,
-        place: p3,
-        last: _,
-    } = systems
-    else {
+    let systems = read_counted(ledger, place, &marks::SYSTEM, news, out, at);
+    let Step::Done { at, place, .. } = systems else {
         return systems;
     };
-    let old = read_run(ledger, p3, &COUNT, out, a3);
+    let old = read_run(ledger, place, &marks::SYSTEM_COUNT, out, at);
     let Step::Done {
-        at: a4,
-        place: p4,
+        at,
+        place,
         last: olds,
     } = old
     else {
         return old;
     };
-    read_counted(ledger, p4, &SYSTEM, olds, out, a4)
+    read_counted(ledger, place, &marks::SYSTEM, olds, out, at)
 }
 
 // Id 1: a cell fragment, with its centre at the first occurrence.
@@ -96,70 +67,59 @@ pub fn read_fragment(ledger: &[u8], place: usize, out: &mut [u8], at: usize) -> 
     requires { ⌜ LedgerPlaced (now ledger) place at ⌝ }
     ensures { λ r. ⌜ Laid (now (ledger .entry)) fragment place at (now (out .entry)) (λ _. end) (now (out .exit)) r ⌝ }
 {
-    let cell = read_run(ledger, place, &CELL, out, at);
+    let cell = read_run(ledger, place, &marks::CELL, out, at);
     let Step::Done {
-        at: a1,
-        place: p1,
+        at,
+        place,
         last: first,
     } = cell
     else {
         return cell;
     };
-    let flag = read_run(ledger, p1, &LAST, out, a1);
-    let Step::Done {
-        at: a2,
-        place: p2,
-        last: _,
-    } = flag
-    else {
+    let flag = read_run(ledger, place, &marks::LAST, out, at);
+    let Step::Done { at, place, .. } = flag else {
         return flag;
     };
     if first == 1 {
-        let centre = read_run(ledger, p2, &CENTRE, out, a2);
+        let centre = read_run(ledger, place, &marks::CENTRE, out, at);
         let Step::Done {
-            at: a3,
-            place: p3,
+            at,
+            place,
             last: count,
         } = centre
         else {
             return centre;
         };
-        return read_lists(ledger, p3, count, out, a3);
+        return read_lists(ledger, place, count, out, at);
     }
-    let none = read_run(ledger, p2, &NO_CENTRE, out, a2);
+    let none = read_run(ledger, place, &marks::NO_CENTRE, out, at);
     let Step::Done {
-        at: a3,
-        place: p3,
+        at,
+        place,
         last: count,
     } = none
     else {
         return none;
     };
-    read_lists(ledger, p3, count, out, a3)
+    read_lists(ledger, place, count, out, at)
 }
-
-const TYPE: [u8; 1] = [4];
-
-const LEAP_TIME: [u8; 9] = [1, 1, 1, 1, 33, 6, 9, 64, 32];
-
-const TIME: [u8; 6] = [4, 33, 6, 9, 64, 32];
 
 // Id 2: a time association, with leap flags where its type is 1.
 pub fn read_association(ledger: &[u8], place: usize, out: &mut [u8], at: usize) -> Step
     requires { ⌜ LedgerPlaced (now ledger) place at ⌝ }
     ensures { λ r. ⌜ Laid (now (ledger .entry)) association place at (now (out .entry)) (λ _. end) (now (out .exit)) r ⌝ }
 {
-    let head = read_run(ledger, place, &TYPE, out, at);
+    let head = read_run(ledger, place, &marks::TYPE, out, at);
     let Step::Done {
-        at: a,
-        place: p,
+        at,
+        place,
         last: kind,
     } = head
     else {
         return head;
     };
     if kind == 1 {
-        return read_run(ledger, p, &LEAP_TIME, out, a);
+        return read_run(ledger, place, &marks::LEAP, out, at);
     }
-    read_run(ledger, p, &TIME, out, a)
+    read_run(ledger, place, &marks::NO_LEAP, out, at)
 }

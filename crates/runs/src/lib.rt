@@ -6,6 +6,8 @@ ghost use Rattle.runs.specs.Lines.{widthOf, sizeOf, shownOf, markOk};
 ghost use Rattle.runs.specs.Steps.{refusalIn};
 use format::Refusal;
 
+pub mod marks;
+
 // Where a step came to: its place in the body, in bits, its place in the ledger, and the last field's number; or a refusal.
 pub enum Step {
     Done { at: usize, place: usize, last: u64 },

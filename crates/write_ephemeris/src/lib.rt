@@ -7,52 +7,9 @@ ghost use Rattle.write_runs.specs.Went.{Placed, Ran};
 ghost use Rattle.write_ephemeris.specs.Rest.{flagged, unflagged, ephemerisTo};
 use format::Refusal;
 use runs::Step;
+use runs::marks;
 use write_runs::write_needed;
 use write_runs::write_run;
-
-const HEADER: [u8; 6] = [4, 4, 8, 7, 9, 32];
-
-const STAMP: [u8; 4] = [8, 7, 9, 32];
-
-const METADATA: [u8; 12] = [8, 7, 9, 32, 8, 7, 9, 32, 1, 1, 3, 3];
-
-const MOTION: [u8; 10] = [8, 7, 9, 32, 32, 32, 32, 32, 32, 32];
-
-const ACCELERATED: [u8; 13] = [8, 7, 9, 32, 32, 32, 32, 32, 32, 32, 32, 32, 32];
-
-const COVARIANCE: [u8; 25] = [
-    8,
-    7,
-    9,
-    32,
-    32,
-    32,
-    32,
-    32,
-    32,
-    32,
-    32,
-    32,
-    32,
-    32,
-    32,
-    32,
-    32,
-    32,
-    32,
-    32,
-    32,
-    32,
-    32,
-    32,
-    32,
-];
-
-const COUNT: [u8; 1] = [16];
-
-const SATELLITE: [u8; 3] = [24, 3, 1];
-
-const FLAG: [u8; 1] = [1];
 
 // Versions and creation date.
 pub fn write_header(body: &[u8], at: usize, out: &mut [u8], place: usize) -> Step
@@ -67,7 +24,7 @@ pub fn write_header(body: &[u8], at: usize, out: &mut [u8], place: usize) -> Ste
             have,
         });
     }
-    write_needed(body, at, 15, 64, &HEADER, out, place)
+    write_needed(body, at, 15, 64, &marks::HEADER, out, place)
 }
 
 // A usable time, where its flag is set.
@@ -83,7 +40,7 @@ pub fn write_usable(
     ensures { λ r. ⌜ ((nm : Name) (s : Syntax) → Ran (now (body .entry)) 0 (usable number nm flag s) at place (now (out .entry)) (λ _. s) (now (out .exit)) r) ⌝ }
 {
     if flag == 1 {
-        return write_needed(body, at, number, 56, &STAMP, out, place);
+        return write_needed(body, at, number, 56, &marks::STAMP, out, place);
     }
     Step::Done { at, place, last: 0 }
 }
@@ -100,25 +57,15 @@ pub fn write_metadata(
     requires { ⌜ Placed (now body) at place ⌝ }
     ensures { λ r. ⌜ ((s : Syntax) → Ran (now (body .entry)) 0 (metadata start stop s) at place (now (out .entry)) (λ _. s) (now (out .exit)) r) ⌝ }
 {
-    let fixed = write_needed(body, at, 16, 120, &METADATA, out, place);
-    let Step::Done {
-        at: a1,
-        place: p1,
-        last: _,
-    } = fixed
-    else {
+    let fixed = write_needed(body, at, 16, 120, &marks::METADATA, out, place);
+    let Step::Done { at, place, .. } = fixed else {
         return fixed;
     };
-    let from = write_usable(body, a1, 17, start, out, p1);
-    let Step::Done {
-        at: a2,
-        place: p2,
-        last: _,
-    } = from
-    else {
+    let from = write_usable(body, at, 17, start, out, place);
+    let Step::Done { at, place, .. } = from else {
         return from;
     };
-    write_usable(body, a2, 18, stop, out, p2)
+    write_usable(body, at, 18, stop, out, place)
 }
 
 // One ephemeris entry, tested by itself.
@@ -127,9 +74,9 @@ pub fn write_entry(body: &[u8], at: usize, accel: u64, out: &mut [u8], place: us
     ensures { λ r. ⌜ ((e : ℕ) (k : ℕ → Syntax) → Ran (now (body .entry)) e (ephemerisTo accel k) at place (now (out .entry)) k (now (out .exit)) r) ⌝ }
 {
     if accel == 1 {
-        return write_needed(body, at, 19, 344, &ACCELERATED, out, place);
+        return write_needed(body, at, 19, 344, &marks::ACCELERATED, out, place);
     }
-    write_needed(body, at, 19, 248, &MOTION, out, place)
+    write_needed(body, at, 19, 248, &marks::MOTION, out, place)
 }
 
 // So many ephemeris entries.
@@ -149,16 +96,11 @@ pub fn write_each(
     let mut i: u64 = 0;
     while i < count {
         let step = write_entry(body, here, accel, out, there);
-        let Step::Done {
-            at: a,
-            place: p,
-            last: _,
-        } = step
-        else {
+        let Step::Done { at, place, .. } = step else {
             return step;
         };
-        here = a;
-        there = p;
+        here = at;
+        there = place;
         i += 1;
     }
     Step::Done {
@@ -180,32 +122,23 @@ pub fn write_ephemerides(
     requires { ⌜ Placed (now body) at place ⌝ }
     ensures { λ r. ⌜ Ran (now (body .entry)) 0 (ephemerides accel cov) at place (now (out .entry)) (λ _. end) (now (out .exit)) r ⌝ }
 {
-    let number = write_run(body, at, &COUNT, out, place);
+    let number = write_run(body, at, &marks::EPHEMERIS_COUNT, out, place);
     let Step::Done {
-        at: a1,
-        place: p1,
+        at,
+        place,
         last: count,
     } = number
     else {
         return number;
     };
-    let each = write_each(body, a1, accel, count, out, p1);
-    let Step::Done {
-        at: a2,
-        place: p2,
-        last: _,
-    } = each
-    else {
+    let each = write_each(body, at, accel, count, out, place);
+    let Step::Done { at, place, .. } = each else {
         return each;
     };
     if cov == 1 {
-        return write_needed(body, a2, 20, 728, &COVARIANCE, out, p2);
+        return write_needed(body, at, 20, 728, &marks::COVARIANCE, out, place);
     }
-    Step::Done {
-        at: a2,
-        place: p2,
-        last: 0,
-    }
+    Step::Done { at, place, last: 0 }
 }
 
 // What follows a satellite's flags.
@@ -225,15 +158,10 @@ pub fn write_flagged(
 {
     if meta == 1 {
         let known = write_metadata(body, at, start, stop, out, place);
-        let Step::Done {
-            at: a,
-            place: p,
-            last: _,
-        } = known
-        else {
+        let Step::Done { at, place, .. } = known else {
             return known;
         };
-        return write_ephemerides(body, a, accel, cov, out, p);
+        return write_ephemerides(body, at, accel, cov, out, place);
     }
     write_ephemerides(body, at, accel, cov, out, place)
 }
@@ -250,34 +178,34 @@ pub fn write_unflagged(
     requires { ⌜ Placed (now body) at place ⌝ }
     ensures { λ r. ⌜ Ran (now (body .entry)) 0 (unflagged meta start) at place (now (out .entry)) (λ _. end) (now (out .exit)) r ⌝ }
 {
-    let third = write_run(body, at, &FLAG, out, place);
+    let third = write_run(body, at, &marks::FLAG, out, place);
     let Step::Done {
-        at: a1,
-        place: p1,
+        at,
+        place,
         last: stop,
     } = third
     else {
         return third;
     };
-    let fourth = write_run(body, a1, &FLAG, out, p1);
+    let fourth = write_run(body, at, &marks::FLAG, out, place);
     let Step::Done {
-        at: a2,
-        place: p2,
+        at,
+        place,
         last: accel,
     } = fourth
     else {
         return fourth;
     };
-    let fifth = write_run(body, a2, &FLAG, out, p2);
+    let fifth = write_run(body, at, &marks::FLAG, out, place);
     let Step::Done {
-        at: a3,
-        place: p3,
+        at,
+        place,
         last: cov,
     } = fifth
     else {
         return fifth;
     };
-    write_flagged(body, a3, meta, start, stop, accel, cov, out, p3)
+    write_flagged(body, at, meta, start, stop, accel, cov, out, place)
 }
 
 // A satellite.
@@ -285,23 +213,23 @@ pub fn write_position3(body: &[u8], at: usize, out: &mut [u8], place: usize) -> 
     requires { ⌜ Placed (now body) at place ⌝ }
     ensures { λ r. ⌜ Ran (now (body .entry)) 0 position3 at place (now (out .entry)) (λ _. end) (now (out .exit)) r ⌝ }
 {
-    let first = write_run(body, at, &SATELLITE, out, place);
+    let first = write_run(body, at, &marks::SATELLITE3, out, place);
     let Step::Done {
-        at: a1,
-        place: p1,
+        at,
+        place,
         last: meta,
     } = first
     else {
         return first;
     };
-    let second = write_run(body, a1, &FLAG, out, p1);
+    let second = write_run(body, at, &marks::FLAG, out, place);
     let Step::Done {
-        at: a2,
-        place: p2,
+        at,
+        place,
         last: start,
     } = second
     else {
         return second;
     };
-    write_unflagged(body, a2, meta, start, out, p2)
+    write_unflagged(body, at, meta, start, out, place)
 }

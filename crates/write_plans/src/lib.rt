@@ -14,21 +14,10 @@ ghost use Rattle.write_plans.specs.Slots.{packedBits};
 use bits::value_at;
 use format::Refusal;
 use runs::Step;
+use runs::marks;
 use write_runs::put;
 use write_runs::write_needed;
 use write_runs::write_run;
-
-// A plan's first fields, those in front of its clocks, and the clocks by twos and by fours.
-const PLAN: [u8; 2] = [32, 4];
-
-const MODE: [u8; 2] = [6, 2];
-
-const CLOCKS: [u8; 6] = [33, 6, 9, 33, 6, 9];
-
-const GRID: [u8; 12] = [33, 6, 9, 33, 6, 9, 33, 6, 9, 33, 6, 9];
-
-// Either number of slots: the size of the map, the current slot.
-const SLOT: [u8; 2] = [1, 15];
 
 // The smaller of two numbers.
 fn lesser(a: usize, b: usize) -> usize
@@ -116,25 +105,20 @@ fn write_bitmap(body: &[u8], at: usize, out: &mut [u8], place: usize) -> Step
     requires { ⌜ at % 8 ≡ 0 ⌝ }
     ensures { λ r. ⌜ ((e : ℕ) → Ran (now (body .entry)) e bitmap at place (now (out .entry)) (λ _. end) (now (out .exit)) r) ⌝ }
 {
-    let size = write_needed(body, at, 11, 32, &SLOT, out, place);
+    let size = write_needed(body, at, 11, 32, &marks::SLOT, out, place);
     let Step::Done {
-        at: a1,
-        place: p1,
+        at,
+        place,
         last: slots,
     } = size
     else {
         return size;
     };
-    let current = write_run(body, a1, &SLOT, out, p1);
-    let Step::Done {
-        at: a2,
-        place: p2,
-        last: _,
-    } = current
-    else {
+    let current = write_run(body, at, &marks::SLOT, out, place);
+    let Step::Done { at, place, .. } = current else {
         return current;
     };
-    write_slots(body, a2, slots as usize, out, p2)
+    write_slots(body, at, slots as usize, out, place)
 }
 
 // The fields of a plan's mode, by its number.
@@ -144,13 +128,13 @@ fn write_mode(body: &[u8], at: usize, stop: usize, kind: u64, out: &mut [u8], pl
     ensures { λ r. ⌜ Ragged (now (body .entry)) stop (mode kind) at place (now (out .entry)) (now (out .exit)) r ⌝ }
 {
     if kind == 0 {
-        return write_needed(body, at, 10, 96, &CLOCKS, out, place);
+        return write_needed(body, at, 10, 96, &marks::CLOCKS, out, place);
     }
     if kind == 1 {
         return write_bitmap(body, at, out, place);
     }
     if kind == 2 {
-        return write_needed(body, at, 13, 192, &GRID, out, place);
+        return write_needed(body, at, 13, 192, &marks::GRID, out, place);
     }
     write_raw(body, at, stop, out, place)
 }
@@ -161,25 +145,20 @@ fn write_hopping(body: &[u8], at: usize, stop: usize, out: &mut [u8], place: usi
     requires { ⌜ (at % 8 ≡ 0) × (stop % 8 ≡ 0) ⌝ }
     ensures { λ r. ⌜ Ran (now (body .entry)) stop hopping at place (now (out .entry)) (λ _. end) (now (out .exit)) r ⌝ }
 {
-    let head = write_run(body, at, &MODE, out, place);
+    let head = write_run(body, at, &marks::MODE, out, place);
     let Step::Done {
-        at: a1,
-        place: p1,
+        at,
+        place,
         last: kind,
     } = head
     else {
         return head;
     };
-    let clocks = write_run(body, a1, &CLOCKS, out, p1);
-    let Step::Done {
-        at: a2,
-        place: p2,
-        last: _,
-    } = clocks
-    else {
+    let clocks = write_run(body, at, &marks::CLOCKS, out, place);
+    let Step::Done { at, place, .. } = clocks else {
         return clocks;
     };
-    write_mode(body, a2, stop, kind, out, p2)
+    write_mode(body, at, stop, kind, out, place)
 }
 
 // A plan's length and what it is the length of. The next place is the plan's end, or the data's if that comes first.
@@ -227,14 +206,9 @@ pub fn write_plan(body: &[u8], at: usize, out: &mut [u8], place: usize) -> Step
     requires { ⌜ at % 8 ≡ 0 ⌝ }
     ensures { λ r. ⌜ Ran (now (body .entry)) 0 beamhopping at place (now (out .entry)) (λ _. end) (now (out .exit)) r ⌝ }
 {
-    let head = write_run(body, at, &PLAN, out, place);
-    let Step::Done {
-        at: a,
-        place: p,
-        last: _,
-    } = head
-    else {
+    let head = write_run(body, at, &marks::PLAN, out, place);
+    let Step::Done { at, place, .. } = head else {
         return head;
     };
-    write_ended(body, a, out, p)
+    write_ended(body, at, out, place)
 }

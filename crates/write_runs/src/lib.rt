@@ -105,16 +105,11 @@ fn store_run(body: &[u8], at: usize, marks: &[u8], out: &mut [u8], place: usize)
     let mut i = 0;
     while i < marks.len() {
         let step = write_line(body, here, marks[i], out, there);
-        let Step::Done {
-            at: a,
-            place: p,
-            last,
-        } = step
-        else {
+        let Step::Done { at, place, last } = step else {
             return step;
         };
-        here = a;
-        there = p;
+        here = at;
+        there = place;
         value = last;
         i += 1;
     }
@@ -166,6 +161,38 @@ pub fn write_needed(
     write_run(body, at, marks, out, place)
 }
 
+// The same run so many times.
+fn write_rounds(
+    body: &[u8],
+    at: usize,
+    marks: &[u8],
+    count: usize,
+    out: &mut [u8],
+    place: usize,
+) -> Step
+    requires { ⌜ Placed (now body) at place ⌝ }
+    requires { ⌜ T (marksOk (now marks)) ⌝ }
+    ensures { λ r. ⌜ ((e : ℕ) (nms : List Name) (s : Syntax) → Ran (now (body .entry)) e (times count (runOf nms (now (marks .entry))) s) at place (now (out .entry)) (λ _. s) (now (out .exit)) r) ⌝ }
+{
+    let mut here = at;
+    let mut there = place;
+    let mut i = 0;
+    while i < count {
+        let step = write_run(body, here, marks, out, there);
+        let Step::Done { at, place, .. } = step else {
+            return step;
+        };
+        here = at;
+        there = place;
+        i += 1;
+    }
+    Step::Done {
+        at: here,
+        place: there,
+        last: 0,
+    }
+}
+
 // The same run count times, for which so many bits each must remain.
 pub fn write_counted(
     body: &[u8],
@@ -184,33 +211,9 @@ pub fn write_counted(
 {
     let have = 8 * body.len() - at;
     let n = count as usize;
-    if have < n * bits {
-        return Step::Refused(Refusal {
-            number,
-            need: n * bits,
-            have,
-        });
+    let need = n * bits;
+    if have < need {
+        return Step::Refused(Refusal { number, need, have });
     }
-    let mut here = at;
-    let mut there = place;
-    let mut i = 0;
-    while i < n {
-        let step = write_run(body, here, marks, out, there);
-        let Step::Done {
-            at: a,
-            place: p,
-            last: _,
-        } = step
-        else {
-            return step;
-        };
-        here = a;
-        there = p;
-        i += 1;
-    }
-    Step::Done {
-        at: here,
-        place: there,
-        last: 0,
-    }
+    write_rounds(body, at, marks, n, out, place)
 }

@@ -7,49 +7,30 @@ ghost use Rattle.write_runs.specs.Went.{Placed, Ran};
 ghost use Rattle.write_tables.specs.Lists.{lists};
 use format::Refusal;
 use runs::Step;
+use runs::marks;
 use write_runs::write_counted;
 use write_runs::write_needed;
 use write_runs::write_run;
-
-const SATELLITE: [u8; 3] = [24, 7, 1];
-
-const ORBITAL: [u8; 3] = [16, 1, 7];
-
-const ELEMENTS: [u8; 12] = [8, 16, 32, 32, 32, 32, 32, 32, 32, 32, 32, 32];
 
 // Id 0: a satellite.
 pub fn write_position(body: &[u8], at: usize, out: &mut [u8], place: usize) -> Step
     requires { ⌜ Placed (now body) at place ⌝ }
     ensures { λ r. ⌜ Ran (now (body .entry)) 0 position at place (now (out .entry)) (λ _. end) (now (out .exit)) r ⌝ }
 {
-    let head = write_run(body, at, &SATELLITE, out, place);
+    let head = write_run(body, at, &marks::SATELLITE, out, place);
     let Step::Done {
-        at: a,
-        place: p,
+        at,
+        place,
         last: system,
     } = head
     else {
         return head;
     };
     if system == 0 {
-        return write_needed(body, a, 3, 24, &ORBITAL, out, p);
+        return write_needed(body, at, 3, 24, &marks::ORBITAL, out, place);
     }
-    write_needed(body, a, 4, 344, &ELEMENTS, out, p)
+    write_needed(body, at, 4, 344, &marks::ELEMENTS, out, place)
 }
-
-const CELL: [u8; 2] = [32, 1];
-
-const LAST: [u8; 1] = [1];
-
-const CENTRE: [u8; 7] = [4, 146, 5, 147, 24, 6, 10];
-
-const NO_CENTRE: [u8; 2] = [4, 10];
-
-const ID: [u8; 1] = [32];
-
-const COUNT: [u8; 2] = [6, 10];
-
-const SYSTEM: [u8; 4] = [32, 33, 6, 9];
 
 // Id 1: the three lists, behind the first one's count.
 pub fn write_lists(body: &[u8], at: usize, count: u64, out: &mut [u8], place: usize) -> Step
@@ -57,43 +38,33 @@ pub fn write_lists(body: &[u8], at: usize, count: u64, out: &mut [u8], place: us
     requires { ⌜ count < 1024 ⌝ }
     ensures { λ r. ⌜ Ran (now (body .entry)) 0 (lists count) at place (now (out .entry)) (λ _. end) (now (out .exit)) r ⌝ }
 {
-    let ids = write_counted(body, at, 6, 32, &ID, count, out, place);
-    let Step::Done {
-        at: a1,
-        place: p1,
-        last: _,
-    } = ids
-    else {
+    let ids = write_counted(body, at, 6, 32, &marks::SYSTEM_ID, count, out, place);
+    let Step::Done { at, place, .. } = ids else {
         return ids;
     };
-    let new = write_run(body, a1, &COUNT, out, p1);
+    let new = write_run(body, at, &marks::SYSTEM_COUNT, out, place);
     let Step::Done {
-        at: a2,
-        place: p2,
+        at,
+        place,
         last: news,
     } = new
     else {
         return new;
     };
-    let systems = write_counted(body, a2, 7, 80, &SYSTEM, news, out, p2);
-    let Step::Done {
-        at: a3,
-        place: p3,
-        last: _,
-    } = systems
-    else {
+    let systems = write_counted(body, at, 7, 80, &marks::SYSTEM, news, out, place);
+    let Step::Done { at, place, .. } = systems else {
         return systems;
     };
-    let old = write_run(body, a3, &COUNT, out, p3);
+    let old = write_run(body, at, &marks::SYSTEM_COUNT, out, place);
     let Step::Done {
-        at: a4,
-        place: p4,
+        at,
+        place,
         last: olds,
     } = old
     else {
         return old;
     };
-    write_counted(body, a4, 8, 80, &SYSTEM, olds, out, p4)
+    write_counted(body, at, 8, 80, &marks::SYSTEM, olds, out, place)
 }
 
 // Id 1: a cell fragment.
@@ -101,53 +72,42 @@ pub fn write_fragment(body: &[u8], at: usize, out: &mut [u8], place: usize) -> S
     requires { ⌜ Placed (now body) at place ⌝ }
     ensures { λ r. ⌜ Ran (now (body .entry)) 0 fragment at place (now (out .entry)) (λ _. end) (now (out .exit)) r ⌝ }
 {
-    let cell = write_run(body, at, &CELL, out, place);
+    let cell = write_run(body, at, &marks::CELL, out, place);
     let Step::Done {
-        at: a1,
-        place: p1,
+        at,
+        place,
         last: first,
     } = cell
     else {
         return cell;
     };
-    let flag = write_run(body, a1, &LAST, out, p1);
-    let Step::Done {
-        at: a2,
-        place: p2,
-        last: _,
-    } = flag
-    else {
+    let flag = write_run(body, at, &marks::LAST, out, place);
+    let Step::Done { at, place, .. } = flag else {
         return flag;
     };
     if first == 1 {
-        let centre = write_needed(body, a2, 5, 76, &CENTRE, out, p2);
+        let centre = write_needed(body, at, 5, 76, &marks::CENTRE, out, place);
         let Step::Done {
-            at: a3,
-            place: p3,
+            at,
+            place,
             last: count,
         } = centre
         else {
             return centre;
         };
-        return write_lists(body, a3, count, out, p3);
+        return write_lists(body, at, count, out, place);
     }
-    let none = write_run(body, a2, &NO_CENTRE, out, p2);
+    let none = write_run(body, at, &marks::NO_CENTRE, out, place);
     let Step::Done {
-        at: a3,
-        place: p3,
+        at,
+        place,
         last: count,
     } = none
     else {
         return none;
     };
-    write_lists(body, a3, count, out, p3)
+    write_lists(body, at, count, out, place)
 }
-
-const TYPE: [u8; 1] = [4];
-
-const LEAP: [u8; 9] = [1, 1, 1, 1, 33, 6, 9, 64, 32];
-
-const NO_LEAP: [u8; 6] = [4, 33, 6, 9, 64, 32];
 
 // Id 2: a time association.
 pub fn write_association(body: &[u8], at: usize, out: &mut [u8], place: usize) -> Step
@@ -162,17 +122,17 @@ pub fn write_association(body: &[u8], at: usize, out: &mut [u8], place: usize) -
             have,
         });
     }
-    let kind = write_needed(body, at, 9, 152, &TYPE, out, place);
+    let kind = write_needed(body, at, 9, 152, &marks::TYPE, out, place);
     let Step::Done {
-        at: a,
-        place: p,
+        at,
+        place,
         last: association_type,
     } = kind
     else {
         return kind;
     };
     if association_type == 1 {
-        return write_run(body, a, &LEAP, out, p);
+        return write_run(body, at, &marks::LEAP, out, place);
     }
-    write_run(body, a, &NO_LEAP, out, p)
+    write_run(body, at, &marks::NO_LEAP, out, place)
 }

@@ -9,7 +9,7 @@ use Rattle.format.specs.Tables.{u, association, leap, time}
 use Rattle.runs.specs.Lines.{run, signOf, widthOf}
 use Rattle.read_runs.proofs.CameLaws.{done, stops, starts, then, when-yes, when-no, need-any}
 use Rattle.read_runs.proofs.Runs.{placed-on}
-use Rattle.read_tables.proofs.Names as names
+use Rattle.runs.proofs.Names as names
 use Rattle.read_tables.proofs.read_association.Statement.{statement}
 use Rattle.read_tables.proofs.read_association.Tie as tie
 

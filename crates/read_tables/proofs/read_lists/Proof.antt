@@ -8,7 +8,7 @@ use Rattle.format.specs.Tables.{times, system, new, obsolescent}
 use Rattle.runs.specs.Lines.{run, signOf, widthOf}
 use Rattle.read_runs.proofs.CameLaws.{done, stops, starts, then, go-on, need-any}
 use Rattle.read_runs.proofs.Runs.{placed-on}
-use Rattle.read_tables.proofs.Names as names
+use Rattle.runs.proofs.Names as names
 use Rattle.read_tables.proofs.read_lists.Statement.{statement}
 use Rattle.read_tables.proofs.read_lists.Tie as tie
 

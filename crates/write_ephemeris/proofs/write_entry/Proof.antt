@@ -1,20 +1,12 @@
 -- `write_entry` meets its contract: by the acceleration flag, one run or the other.
 -- Assumes nothing.
-use mathlib.Core.List.{List, [], _∷_}
 use borrow.Author.Needs.{needs}
-use Rattle.format.specs.Syntax.{Name}
 use Rattle.runs.specs.Lines.{run, signOf, widthOf}
+use Rattle.runs.proofs.Names as names
 use Rattle.write_runs.proofs.WentLaws.{starts, when-yes, when-no}
 use borrow.Author.Tests.{eq-eqb, ne-eqb}
-use Prim.Native.Nat.{_-_}
 use Rattle.write_ephemeris.proofs.write_entry.Statement.{statement}
 use Rattle.write_ephemeris.proofs.write_entry.Tie as tie
-
-abbrev motion : List Name
-motion = "epoch_year" ∷ "epoch_reserved_zero_future_use" ∷ "epoch_day" ∷ "epoch_day_fraction" ∷ "ephemeris_x" ∷ "ephemeris_y" ∷ "ephemeris_z" ∷ "ephemeris_x_dot" ∷ "ephemeris_y_dot" ∷ "ephemeris_z_dot" ∷ []
-
-abbrev accelerated : List Name
-accelerated = "epoch_year" ∷ "epoch_reserved_zero_future_use" ∷ "epoch_day" ∷ "epoch_day_fraction" ∷ "ephemeris_x" ∷ "ephemeris_y" ∷ "ephemeris_z" ∷ "ephemeris_x_dot" ∷ "ephemeris_y_dot" ∷ "ephemeris_z_dot" ∷ "ephemeris_x_ddot" ∷ "ephemeris_y_ddot" ∷ "ephemeris_z_ddot" ∷ []
 
 slice-aggregate-write-needed : tie.Need-slice-aggregate-write-needed
 slice-aggregate-write-needed c = search needs
@@ -27,7 +19,7 @@ same-length c = search needs
 
 returns : tie.Need-returns
 unfolding run signOf widthOf
-returns c = λ e k. starts (when-yes _ _ _ _ _ _ (eq-eqb _ _ (c .before .before .before .before .before .if1 .taken))) (c .before .before .write-needed .ensures .0 e accelerated k)
+returns c = λ e k. starts (when-yes _ _ _ _ _ _ (eq-eqb _ _ (c .before .before .before .before .before .if1 .taken))) (c .before .before .write-needed .ensures .0 e names.accelerated k)
 
 slice-aggregate-write-needed-2 : tie.Need-slice-aggregate-write-needed-2
 slice-aggregate-write-needed-2 c = search needs
@@ -40,7 +32,7 @@ same-length-2 c = search needs
 
 returns-2 : tie.Need-returns-2
 unfolding run signOf widthOf
-returns-2 c = λ e k. starts (when-no _ _ _ _ _ _ (ne-eqb _ _ (c .before .before .before .before .before .if1 .left))) (c .before .before .write-needed2 .ensures .0 e motion k)
+returns-2 c = λ e k. starts (when-no _ _ _ _ _ _ (ne-eqb _ _ (c .before .before .before .before .before .if1 .left))) (c .before .before .write-needed2 .ensures .0 e names.motion k)
 
 pub write-entry-spec : {M : Type 1} → statement M
 write-entry-spec =

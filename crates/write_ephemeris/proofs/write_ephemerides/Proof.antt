@@ -1,23 +1,17 @@
 -- `write_ephemerides` meets its contract: the count, the entries, the covariance, one on top of the other.
 -- Assumes nothing.
-use mathlib.Core.List.{List, [], _∷_}
 use native.Mathlib.Omega.{arith}
 use borrow.Author.Needs.{needs}
-use Rattle.format.specs.Syntax.{Name, Syntax, end}
+use Rattle.format.specs.Syntax.{Syntax, end}
 use Rattle.runs.specs.Lines.{run, signOf, widthOf}
+use Rattle.runs.proofs.Names as names
 use Rattle.write_runs.proofs.WentLaws.{done, stops, starts, then, go-on, stay, when-yes, when-no}
 use Rattle.write_runs.proofs.Runs.{placed-on}
 use borrow.Author.Tests.{eq-eqb, ne-eqb}
-use Prim.Native.Nat.{ℕ, _-_}
+use Prim.Native.Nat.{ℕ}
 use Rattle.format.specs.Tables.{times, ephemeris, covariance}
 use Rattle.write_ephemeris.proofs.write_ephemerides.Statement.{statement}
 use Rattle.write_ephemeris.proofs.write_ephemerides.Tie as tie
-
-abbrev count : List Name
-count = "ephemeris_data_count" ∷ []
-
-abbrev cov : List Name
-cov = "covariance_epoch_year" ∷ "covariance_epoch_reserved_zero_future_use" ∷ "covariance_epoch_day" ∷ "covariance_epoch_day_fraction" ∷ "covariance_elements" ∷ "covariance_elements" ∷ "covariance_elements" ∷ "covariance_elements" ∷ "covariance_elements" ∷ "covariance_elements" ∷ "covariance_elements" ∷ "covariance_elements" ∷ "covariance_elements" ∷ "covariance_elements" ∷ "covariance_elements" ∷ "covariance_elements" ∷ "covariance_elements" ∷ "covariance_elements" ∷ "covariance_elements" ∷ "covariance_elements" ∷ "covariance_elements" ∷ "covariance_elements" ∷ "covariance_elements" ∷ "covariance_elements" ∷ "covariance_elements" ∷ []
 
 abbrev rest : ℕ → ℕ → ℕ → Syntax
 rest accel flag n = times n (ephemeris accel) (covariance flag)
@@ -39,11 +33,11 @@ same-length c = search needs
 
 returns : tie.Need-returns
 unfolding run signOf widthOf
-returns c = stops (c .enum-told .given .1) (c .before .before .before .before .write-run .ensures .0 0 count (rest (c .before .before .before .before .before .before .before .before .before .args .accel) (c .before .before .before .before .before .before .before .before .before .args .cov)))
+returns c = stops (c .enum-told .given .1) (c .before .before .before .before .write-run .ensures .0 0 names.count (rest (c .before .before .before .before .before .before .before .before .before .args .accel) (c .before .before .before .before .before .before .before .before .before .args .cov)))
 
 write-each-requires : tie.Need-write-each-requires
 unfolding run signOf widthOf
-write-each-requires c κs = placed-on (c .before .before .before .before .before .before .before .before .before .before .before .pre) ((done (c .before .before .number .given .1) (c .before .before .before .before .before .before .write-run .ensures .0 0 count (rest (c .before .before .before .before .before .before .before .before .before .before .before .args .accel) (c .before .before .before .before .before .before .before .before .before .before .before .args .cov)))))
+write-each-requires c κs = placed-on (c .before .before .before .before .before .before .before .before .before .before .before .pre) ((done (c .before .before .number .given .1) (c .before .before .before .before .before .before .write-run .ensures .0 0 names.count (rest (c .before .before .before .before .before .before .before .before .before .before .before .args .accel) (c .before .before .before .before .before .before .before .before .before .before .before .args .cov)))))
 
 enum-known-each : tie.Need-enum-known-each
 enum-known-each c = search needs
@@ -56,30 +50,30 @@ same-length-2 c = search needs
 
 returns-2 : tie.Need-returns-2
 unfolding run signOf widthOf
-returns-2 c = then ((done (c .before .before .before .before .before .before .before .number .given .1) (c .before .before .before .before .before .before .before .before .before .before .before .write-run .ensures .0 0 count (rest (c .before .before .before .before .before .before .before .before .before .before .before .before .before .before .before .before .args .accel) (c .before .before .before .before .before .before .before .before .before .before .before .before .before .before .before .before .args .cov))))) (stops (c .enum-told2 .given .1) (c .before .before .before .before .write-each .ensures (covariance (c .before .before .before .before .before .before .before .before .before .before .before .before .before .before .before .before .args .cov))))
+returns-2 c = then ((done (c .before .before .before .before .before .before .before .number .given .1) (c .before .before .before .before .before .before .before .before .before .before .before .write-run .ensures .0 0 names.count (rest (c .before .before .before .before .before .before .before .before .before .before .before .before .before .before .before .before .args .accel) (c .before .before .before .before .before .before .before .before .before .before .before .before .before .before .before .before .args .cov))))) (stops (c .enum-told2 .given .1) (c .before .before .before .before .write-each .ensures (covariance (c .before .before .before .before .before .before .before .before .before .before .before .before .before .before .before .before .args .cov))))
 
 slice-aggregate-write-needed : tie.Need-slice-aggregate-write-needed
 slice-aggregate-write-needed c = search needs
 
 write-needed-requires : tie.Need-write-needed-requires
 unfolding run signOf widthOf
-write-needed-requires c κs = (placed-on (c .before .before .before .before .before .before .before .before .before .before .before .before .before .before .before .before .before .before .before .before .pre) ((go-on ((done (c .before .before .before .before .before .before .before .before .before .before .before .number .given .1) (c .before .before .before .before .before .before .before .before .before .before .before .before .before .before .before .write-run .ensures .0 0 count (rest (c .before .before .before .before .before .before .before .before .before .before .before .before .before .before .before .before .before .before .before .before .args .accel) (c .before .before .before .before .before .before .before .before .before .before .before .before .before .before .before .before .before .before .before .before .args .cov))))) (done (c .before .before .before .before .each .given .1) (c .before .before .before .before .before .before .before .before .write-each .ensures (covariance (c .before .before .before .before .before .before .before .before .before .before .before .before .before .before .before .before .before .before .before .before .args .cov)))))), tt)
+write-needed-requires c κs = (placed-on (c .before .before .before .before .before .before .before .before .before .before .before .before .before .before .before .before .before .before .before .before .pre) ((go-on ((done (c .before .before .before .before .before .before .before .before .before .before .before .number .given .1) (c .before .before .before .before .before .before .before .before .before .before .before .before .before .before .before .write-run .ensures .0 0 names.count (rest (c .before .before .before .before .before .before .before .before .before .before .before .before .before .before .before .before .before .before .before .before .args .accel) (c .before .before .before .before .before .before .before .before .before .before .before .before .before .before .before .before .before .before .before .before .args .cov))))) (done (c .before .before .before .before .each .given .1) (c .before .before .before .before .before .before .before .before .write-each .ensures (covariance (c .before .before .before .before .before .before .before .before .before .before .before .before .before .before .before .before .before .before .before .before .args .cov)))))), tt)
 
 same-length-3 : tie.Need-same-length-3
 unfolding run signOf widthOf
-same-length-3 c = omega (arith, ((go-on ((done (c .before .before .before .before .before .before .before .before .before .before .before .before .before .before .number .given .1) (c .before .before .before .before .before .before .before .before .before .before .before .before .before .before .before .before .before .before .write-run .ensures .0 0 count (rest (c .before .before .before .before .before .before .before .before .before .before .before .before .before .before .before .before .before .before .before .before .before .before .before .args .accel) (c .before .before .before .before .before .before .before .before .before .before .before .before .before .before .before .before .before .before .before .before .before .before .before .args .cov))))) (done (c .before .before .before .before .before .before .before .each .given .1) (c .before .before .before .before .before .before .before .before .before .before .before .write-each .ensures (covariance (c .before .before .before .before .before .before .before .before .before .before .before .before .before .before .before .before .before .before .before .before .before .before .before .args .cov)))))) .long)
+same-length-3 c = omega (arith, ((go-on ((done (c .before .before .before .before .before .before .before .before .before .before .before .before .before .before .number .given .1) (c .before .before .before .before .before .before .before .before .before .before .before .before .before .before .before .before .before .before .write-run .ensures .0 0 names.count (rest (c .before .before .before .before .before .before .before .before .before .before .before .before .before .before .before .before .before .before .before .before .before .before .before .args .accel) (c .before .before .before .before .before .before .before .before .before .before .before .before .before .before .before .before .before .before .before .before .before .before .before .args .cov))))) (done (c .before .before .before .before .before .before .before .each .given .1) (c .before .before .before .before .before .before .before .before .before .before .before .write-each .ensures (covariance (c .before .before .before .before .before .before .before .before .before .before .before .before .before .before .before .before .before .before .before .before .before .before .before .args .cov)))))) .long)
 
 returns-3 : tie.Need-returns-3
 unfolding run signOf widthOf
-returns-3 c = then ((go-on ((done (c .before .before .before .before .before .before .before .before .before .before .before .before .before .before .number .given .1) (c .before .before .before .before .before .before .before .before .before .before .before .before .before .before .before .before .before .before .write-run .ensures .0 0 count (rest (c .before .before .before .before .before .before .before .before .before .before .before .before .before .before .before .before .before .before .before .before .before .before .before .args .accel) (c .before .before .before .before .before .before .before .before .before .before .before .before .before .before .before .before .before .before .before .before .before .before .before .args .cov))))) (done (c .before .before .before .before .before .before .before .each .given .1) (c .before .before .before .before .before .before .before .before .before .before .before .write-each .ensures (covariance (c .before .before .before .before .before .before .before .before .before .before .before .before .before .before .before .before .before .before .before .before .before .before .before .args .cov)))))) (starts (when-yes _ _ _ _ _ _ (eq-eqb _ _ (c .before .before .before .before .before .if1 .taken))) (c .before .before .write-needed .ensures .0 0 cov (λ _. end)))
+returns-3 c = then ((go-on ((done (c .before .before .before .before .before .before .before .before .before .before .before .before .before .before .number .given .1) (c .before .before .before .before .before .before .before .before .before .before .before .before .before .before .before .before .before .before .write-run .ensures .0 0 names.count (rest (c .before .before .before .before .before .before .before .before .before .before .before .before .before .before .before .before .before .before .before .before .before .before .before .args .accel) (c .before .before .before .before .before .before .before .before .before .before .before .before .before .before .before .before .before .before .before .before .before .before .before .args .cov))))) (done (c .before .before .before .before .before .before .before .each .given .1) (c .before .before .before .before .before .before .before .before .before .before .before .write-each .ensures (covariance (c .before .before .before .before .before .before .before .before .before .before .before .before .before .before .before .before .before .before .before .before .before .before .before .args .cov)))))) (starts (when-yes _ _ _ _ _ _ (eq-eqb _ _ (c .before .before .before .before .before .if1 .taken))) (c .before .before .write-needed .ensures .0 0 names.covariance (λ _. end)))
 
 same-length-4 : tie.Need-same-length-4
 unfolding run signOf widthOf
-same-length-4 c = omega (arith, ((go-on ((done (c .before .before .before .before .before .before .before .before .before .number .given .1) (c .before .before .before .before .before .before .before .before .before .before .before .before .before .write-run .ensures .0 0 count (rest (c .before .before .before .before .before .before .before .before .before .before .before .before .before .before .before .before .before .before .args .accel) (c .before .before .before .before .before .before .before .before .before .before .before .before .before .before .before .before .before .before .args .cov))))) (done (c .before .before .each .given .1) (c .before .before .before .before .before .before .write-each .ensures (covariance (c .before .before .before .before .before .before .before .before .before .before .before .before .before .before .before .before .before .before .args .cov)))))) .long)
+same-length-4 c = omega (arith, ((go-on ((done (c .before .before .before .before .before .before .before .before .before .number .given .1) (c .before .before .before .before .before .before .before .before .before .before .before .before .before .write-run .ensures .0 0 names.count (rest (c .before .before .before .before .before .before .before .before .before .before .before .before .before .before .before .before .before .before .args .accel) (c .before .before .before .before .before .before .before .before .before .before .before .before .before .before .before .before .before .before .args .cov))))) (done (c .before .before .each .given .1) (c .before .before .before .before .before .before .write-each .ensures (covariance (c .before .before .before .before .before .before .before .before .before .before .before .before .before .before .before .before .before .before .args .cov)))))) .long)
 
 returns-4 : tie.Need-returns-4
 unfolding run signOf widthOf
-returns-4 c = then ((go-on ((done (c .before .before .before .before .before .before .before .before .before .number .given .1) (c .before .before .before .before .before .before .before .before .before .before .before .before .before .write-run .ensures .0 0 count (rest (c .before .before .before .before .before .before .before .before .before .before .before .before .before .before .before .before .before .before .args .accel) (c .before .before .before .before .before .before .before .before .before .before .before .before .before .before .before .before .before .before .args .cov))))) (done (c .before .before .each .given .1) (c .before .before .before .before .before .before .write-each .ensures (covariance (c .before .before .before .before .before .before .before .before .before .before .before .before .before .before .before .before .before .before .args .cov)))))) (starts (when-no _ _ _ _ _ _ (ne-eqb _ _ (c .if1 .left))) (record { to = stay (((go-on ((done (c .before .before .before .before .before .before .before .before .before .number .given .1) (c .before .before .before .before .before .before .before .before .before .before .before .before .before .write-run .ensures .0 0 count (rest (c .before .before .before .before .before .before .before .before .before .before .before .before .before .before .before .before .before .before .args .accel) (c .before .before .before .before .before .before .before .before .before .before .before .before .before .before .before .before .before .before .args .cov))))) (done (c .before .before .each .given .1) (c .before .before .before .before .before .before .write-each .ensures (covariance (c .before .before .before .before .before .before .before .before .before .before .before .before .before .before .before .before .before .before .args .cov)))))) .within) }))
+returns-4 c = then ((go-on ((done (c .before .before .before .before .before .before .before .before .before .number .given .1) (c .before .before .before .before .before .before .before .before .before .before .before .before .before .write-run .ensures .0 0 names.count (rest (c .before .before .before .before .before .before .before .before .before .before .before .before .before .before .before .before .before .before .args .accel) (c .before .before .before .before .before .before .before .before .before .before .before .before .before .before .before .before .before .before .args .cov))))) (done (c .before .before .each .given .1) (c .before .before .before .before .before .before .write-each .ensures (covariance (c .before .before .before .before .before .before .before .before .before .before .before .before .before .before .before .before .before .before .args .cov)))))) (starts (when-no _ _ _ _ _ _ (ne-eqb _ _ (c .if1 .left))) (record { to = stay (((go-on ((done (c .before .before .before .before .before .before .before .before .before .number .given .1) (c .before .before .before .before .before .before .before .before .before .before .before .before .before .write-run .ensures .0 0 names.count (rest (c .before .before .before .before .before .before .before .before .before .before .before .before .before .before .before .before .before .before .args .accel) (c .before .before .before .before .before .before .before .before .before .before .before .before .before .before .before .before .before .before .args .cov))))) (done (c .before .before .each .given .1) (c .before .before .before .before .before .before .write-each .ensures (covariance (c .before .before .before .before .before .before .before .before .before .before .before .before .before .before .before .before .before .before .args .cov)))))) .within) }))
 
 pub write-ephemerides-spec : {M : Type 1} → statement M
 write-ephemerides-spec =

@@ -4,7 +4,6 @@ use borrow.Author.Needs.{needs}
 use Rattle.write_runs.proofs.WentLaws.{done, stops, starts, then, when-yes, when-no}
 use Rattle.write_runs.proofs.Runs.{placed-on}
 use borrow.Author.Tests.{eq-eqb, ne-eqb}
-use Prim.Native.Nat.{_-_}
 use Rattle.format.specs.Tables.{ephemerides}
 use Rattle.write_ephemeris.proofs.write_flagged.Statement.{statement}
 use Rattle.write_ephemeris.proofs.write_flagged.Tie as tie

@@ -1,18 +1,14 @@
 -- `write_header` meets its contract: one run of fields.
 -- Assumes nothing.
-use mathlib.Core.List.{List, [], _∷_}
 use native.Mathlib.Omega.{arith}
 use borrow.Author.Needs.{needs}
-use Rattle.format.specs.Syntax.{Name, end}
+use Rattle.format.specs.Syntax.{end}
 use Rattle.runs.specs.Lines.{run, signOf, widthOf}
+use Rattle.runs.proofs.Names as names
 use Rattle.write_runs.proofs.WentLaws.{starts, need-yes, need-no}
-use Prim.Native.Nat.{_-_}
 use Rattle.format.specs.Tables.{header}
 use Rattle.write_ephemeris.proofs.write_header.Statement.{statement}
 use Rattle.write_ephemeris.proofs.write_header.Tie as tie
-
-abbrev names : List Name
-names = "oem_version_major" ∷ "oem_version_minor" ∷ "creation_date_year" ∷ "creation_date_reserved_zero_future_use" ∷ "creation_date_day" ∷ "creation_date_day_fraction" ∷ []
 
 mul-have : tie.Need-mul-have
 mul-have c = search needs
@@ -35,7 +31,7 @@ same-length c = search needs
 
 returns-2 : tie.Need-returns-2
 unfolding header run signOf widthOf
-returns-2 c = starts (need-yes _ _ _ 2 1 _ (omega arith)) (c .before .before .write-needed .ensures .0 0 names (λ _. end))
+returns-2 c = starts (need-yes _ _ _ 2 1 _ (omega arith)) (c .before .before .write-needed .ensures .0 0 names.header (λ _. end))
 
 pub write-header-spec : {M : Type 1} → statement M
 write-header-spec =

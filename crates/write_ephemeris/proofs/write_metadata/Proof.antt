@@ -1,18 +1,15 @@
 -- `write_metadata` meets its contract: by its flag, with each usable time by its own.
 -- Assumes nothing.
-use mathlib.Core.List.{List, [], _∷_}
 use borrow.Author.Needs.{needs}
-use Rattle.format.specs.Syntax.{Name, Syntax, end}
+use Rattle.format.specs.Syntax.{Syntax, end}
 use Rattle.runs.specs.Lines.{run, signOf, widthOf}
+use Rattle.runs.proofs.Names as names
 use Rattle.write_runs.proofs.WentLaws.{done, stops, then, go-on}
 use Rattle.write_runs.proofs.Runs.{placed-on}
-use Prim.Native.Nat.{ℕ, _-_}
+use Prim.Native.Nat.{ℕ}
 use Rattle.format.specs.Tables.{usable}
 use Rattle.write_ephemeris.proofs.write_metadata.Statement.{statement}
 use Rattle.write_ephemeris.proofs.write_metadata.Tie as tie
-
-abbrev names : List Name
-names = "total_start_time_year" ∷ "total_start_time_reserved_zero_future_use" ∷ "total_start_time_day" ∷ "total_start_time_day_fraction" ∷ "total_stop_time_year" ∷ "total_stop_time_reserved_zero_future_use" ∷ "total_stop_time_day" ∷ "total_stop_time_day_fraction" ∷ "metadata.reserved_zero_future_use" ∷ "interpolation_flag" ∷ "interpolation_type" ∷ "interpolation_degree" ∷ []
 
 abbrev rest : ℕ → ℕ → Syntax → Syntax
 rest start stop s = usable 17 "usable_start_time" start (usable 18 "usable_stop_time" stop s)
@@ -34,11 +31,11 @@ same-length c = search needs
 
 returns : tie.Need-returns
 unfolding run signOf widthOf
-returns c = λ s. stops (c .enum-told .given .1) (c .before .before .before .before .write-needed .ensures .0 0 names (λ _. rest (c .before .before .before .before .before .before .before .before .before .args .start) (c .before .before .before .before .before .before .before .before .before .args .stop) s))
+returns c = λ s. stops (c .enum-told .given .1) (c .before .before .before .before .write-needed .ensures .0 0 names.metadata (λ _. rest (c .before .before .before .before .before .before .before .before .before .args .start) (c .before .before .before .before .before .before .before .before .before .args .stop) s))
 
 write-usable-requires : tie.Need-write-usable-requires
 unfolding run signOf widthOf
-write-usable-requires c κs = let s : Syntax = end in placed-on (c .before .before .before .before .before .before .before .before .before .before .before .pre) ((done (c .before .before .fixed .given .1) (c .before .before .before .before .before .before .write-needed .ensures .0 0 names (λ _. rest (c .before .before .before .before .before .before .before .before .before .before .before .args .start) (c .before .before .before .before .before .before .before .before .before .before .before .args .stop) s))))
+write-usable-requires c κs = let s : Syntax = end in placed-on (c .before .before .before .before .before .before .before .before .before .before .before .pre) ((done (c .before .before .fixed .given .1) (c .before .before .before .before .before .before .write-needed .ensures .0 0 names.metadata (λ _. rest (c .before .before .before .before .before .before .before .before .before .before .before .args .start) (c .before .before .before .before .before .before .before .before .before .before .before .args .stop) s))))
 
 enum-known-from : tie.Need-enum-known-from
 enum-known-from c = search needs
@@ -51,18 +48,18 @@ same-length-2 c = search needs
 
 returns-2 : tie.Need-returns-2
 unfolding run signOf widthOf
-returns-2 c = λ s. then ((done (c .before .before .before .before .before .before .before .fixed .given .1) (c .before .before .before .before .before .before .before .before .before .before .before .write-needed .ensures .0 0 names (λ _. rest (c .before .before .before .before .before .before .before .before .before .before .before .before .before .before .before .before .args .start) (c .before .before .before .before .before .before .before .before .before .before .before .before .before .before .before .before .args .stop) s)))) (stops (c .enum-told2 .given .1) (c .before .before .before .before .write-usable .ensures "usable_start_time" (usable 18 "usable_stop_time" (c .before .before .before .before .before .before .before .before .before .before .before .before .before .before .before .before .args .stop) s)))
+returns-2 c = λ s. then ((done (c .before .before .before .before .before .before .before .fixed .given .1) (c .before .before .before .before .before .before .before .before .before .before .before .write-needed .ensures .0 0 names.metadata (λ _. rest (c .before .before .before .before .before .before .before .before .before .before .before .before .before .before .before .before .args .start) (c .before .before .before .before .before .before .before .before .before .before .before .before .before .before .before .before .args .stop) s)))) (stops (c .enum-told2 .given .1) (c .before .before .before .before .write-usable .ensures "usable_start_time" (usable 18 "usable_stop_time" (c .before .before .before .before .before .before .before .before .before .before .before .before .before .before .before .before .args .stop) s)))
 
 write-usable-requires-2 : tie.Need-write-usable-requires-2
 unfolding run signOf widthOf
-write-usable-requires-2 c κs = let s : Syntax = end in placed-on (c .before .before .before .before .before .before .before .before .before .before .before .before .before .before .before .before .before .before .pre) ((go-on ((done (c .before .before .before .before .before .before .before .before .before .fixed .given .1) (c .before .before .before .before .before .before .before .before .before .before .before .before .before .write-needed .ensures .0 0 names (λ _. rest (c .before .before .before .before .before .before .before .before .before .before .before .before .before .before .before .before .before .before .args .start) (c .before .before .before .before .before .before .before .before .before .before .before .before .before .before .before .before .before .before .args .stop) s)))) (done (c .before .before .from .given .1) (c .before .before .before .before .before .before .write-usable .ensures "usable_start_time" (usable 18 "usable_stop_time" (c .before .before .before .before .before .before .before .before .before .before .before .before .before .before .before .before .before .before .args .stop) s)))))
+write-usable-requires-2 c κs = let s : Syntax = end in placed-on (c .before .before .before .before .before .before .before .before .before .before .before .before .before .before .before .before .before .before .pre) ((go-on ((done (c .before .before .before .before .before .before .before .before .before .fixed .given .1) (c .before .before .before .before .before .before .before .before .before .before .before .before .before .write-needed .ensures .0 0 names.metadata (λ _. rest (c .before .before .before .before .before .before .before .before .before .before .before .before .before .before .before .before .before .before .args .start) (c .before .before .before .before .before .before .before .before .before .before .before .before .before .before .before .before .before .before .args .stop) s)))) (done (c .before .before .from .given .1) (c .before .before .before .before .before .before .write-usable .ensures "usable_start_time" (usable 18 "usable_stop_time" (c .before .before .before .before .before .before .before .before .before .before .before .before .before .before .before .before .before .before .args .stop) s)))))
 
 same-length-3 : tie.Need-same-length-3
 same-length-3 c = search needs
 
 returns-3 : tie.Need-returns-3
 unfolding run signOf widthOf
-returns-3 c = λ s. then ((go-on ((done (c .before .before .before .before .before .before .before .before .before .before .before .before .fixed .given .1) (c .before .before .before .before .before .before .before .before .before .before .before .before .before .before .before .before .write-needed .ensures .0 0 names (λ _. rest (c .before .before .before .before .before .before .before .before .before .before .before .before .before .before .before .before .before .before .before .before .before .args .start) (c .before .before .before .before .before .before .before .before .before .before .before .before .before .before .before .before .before .before .before .before .before .args .stop) s)))) (done (c .before .before .before .before .before .from .given .1) (c .before .before .before .before .before .before .before .before .before .write-usable .ensures "usable_start_time" (usable 18 "usable_stop_time" (c .before .before .before .before .before .before .before .before .before .before .before .before .before .before .before .before .before .before .before .before .before .args .stop) s))))) (c .before .before .write-usable2 .ensures "usable_stop_time" s)
+returns-3 c = λ s. then ((go-on ((done (c .before .before .before .before .before .before .before .before .before .before .before .before .fixed .given .1) (c .before .before .before .before .before .before .before .before .before .before .before .before .before .before .before .before .write-needed .ensures .0 0 names.metadata (λ _. rest (c .before .before .before .before .before .before .before .before .before .before .before .before .before .before .before .before .before .before .before .before .before .args .start) (c .before .before .before .before .before .before .before .before .before .before .before .before .before .before .before .before .before .before .before .before .before .args .stop) s)))) (done (c .before .before .before .before .before .from .given .1) (c .before .before .before .before .before .before .before .before .before .write-usable .ensures "usable_start_time" (usable 18 "usable_stop_time" (c .before .before .before .before .before .before .before .before .before .before .before .before .before .before .before .before .before .before .before .before .before .args .stop) s))))) (c .before .before .write-usable2 .ensures "usable_stop_time" s)
 
 pub write-metadata-spec : {M : Type 1} → statement M
 write-metadata-spec =

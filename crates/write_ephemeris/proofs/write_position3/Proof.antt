@@ -1,20 +1,17 @@
 -- `write_position3` meets its contract: the parts of a satellite, one on top of the other.
 -- Assumes nothing.
-use mathlib.Core.List.{List, [], _∷_}
 use native.Mathlib.Omega.{arith}
 use borrow.Author.Needs.{needs}
-use Rattle.format.specs.Syntax.{Name, Syntax}
+use Rattle.format.specs.Syntax.{Syntax}
 use Rattle.runs.specs.Lines.{run, signOf, widthOf}
+use Rattle.runs.proofs.Names as names
 use Rattle.write_runs.proofs.WentLaws.{done, stops, then, go-on}
 use Rattle.write_runs.proofs.Runs.{placed-on}
-use Prim.Native.Nat.{ℕ, _-_}
+use Prim.Native.Nat.{ℕ}
 use Rattle.format.specs.Tables.{bits, position3}
 use Rattle.write_ephemeris.specs.Rest.{unflagged}
 use Rattle.write_ephemeris.proofs.write_position3.Statement.{statement}
 use Rattle.write_ephemeris.proofs.write_position3.Tie as tie
-
-abbrev head : List Name
-head = "satellite_id" ∷ "reserved_zero_future_use" ∷ "metadata_flag" ∷ []
 
 abbrev second : ℕ → Syntax
 second meta = bits "usable_start_time_flag" 1 (unflagged meta)
@@ -36,14 +33,14 @@ same-length c = search needs
 
 returns : tie.Need-returns
 unfolding position3 run signOf widthOf
-returns c = stops (c .enum-told .given .1) (c .before .before .before .before .write-run .ensures .0 0 head second)
+returns c = stops (c .enum-told .given .1) (c .before .before .before .before .write-run .ensures .0 0 names.satellite3 second)
 
 slice-aggregate-write-run-2 : tie.Need-slice-aggregate-write-run-2
 slice-aggregate-write-run-2 c = search needs
 
 write-run-requires-2 : tie.Need-write-run-requires-2
 unfolding run signOf widthOf
-write-run-requires-2 c κs = (placed-on (c .before .before .before .before .before .before .before .before .before .before .before .before .pre) ((done (c .before .before .before .first .given .1) (c .before .before .before .before .before .before .before .write-run .ensures .0 0 head second))), tt)
+write-run-requires-2 c κs = (placed-on (c .before .before .before .before .before .before .before .before .before .before .before .before .pre) ((done (c .before .before .before .first .given .1) (c .before .before .before .before .before .before .before .write-run .ensures .0 0 names.satellite3 second))), tt)
 
 enum-known-second : tie.Need-enum-known-second
 enum-known-second c = search needs
@@ -56,19 +53,19 @@ same-length-2 c = search needs
 
 returns-2 : tie.Need-returns-2
 unfolding position3 run signOf widthOf
-returns-2 c = then ((done (c .before .before .before .before .before .before .before .before .first .given .1) (c .before .before .before .before .before .before .before .before .before .before .before .before .write-run .ensures .0 0 head second))) (stops (c .enum-told2 .given .1) (c .before .before .before .before .write-run2 .ensures .0 0 ("usable_start_time_flag" ∷ []) ((unflagged (c .before .before .before .before .before .before .before .before .first .given .0 .1 .1 .0)))))
+returns-2 c = then ((done (c .before .before .before .before .before .before .before .before .first .given .1) (c .before .before .before .before .before .before .before .before .before .before .before .before .write-run .ensures .0 0 names.satellite3 second))) (stops (c .enum-told2 .given .1) (c .before .before .before .before .write-run2 .ensures .0 0 names.start ((unflagged (c .before .before .before .before .before .before .before .before .first .given .0 .1 .1 .0)))))
 
 write-unflagged-requires : tie.Need-write-unflagged-requires
 unfolding run signOf widthOf
-write-unflagged-requires c κs = placed-on (c .before .before .before .before .before .before .before .before .before .before .before .before .before .before .before .before .before .before .before .pre) ((go-on ((done (c .before .before .before .before .before .before .before .before .before .before .first .given .1) (c .before .before .before .before .before .before .before .before .before .before .before .before .before .before .write-run .ensures .0 0 head second))) (done (c .before .before .second .given .1) (c .before .before .before .before .before .before .write-run2 .ensures .0 0 ("usable_start_time_flag" ∷ []) ((unflagged (c .before .before .before .before .before .before .before .before .before .before .first .given .0 .1 .1 .0)))))))
+write-unflagged-requires c κs = placed-on (c .before .before .before .before .before .before .before .before .before .before .before .before .before .before .before .before .before .before .before .pre) ((go-on ((done (c .before .before .before .before .before .before .before .before .before .before .first .given .1) (c .before .before .before .before .before .before .before .before .before .before .before .before .before .before .write-run .ensures .0 0 names.satellite3 second))) (done (c .before .before .second .given .1) (c .before .before .before .before .before .before .write-run2 .ensures .0 0 names.start ((unflagged (c .before .before .before .before .before .before .before .before .before .before .first .given .0 .1 .1 .0)))))))
 
 same-length-3 : tie.Need-same-length-3
 unfolding run signOf widthOf
-same-length-3 c = omega (arith, ((go-on ((done (c .before .before .before .before .before .before .before .before .before .before .before .before .before .first .given .1) (c .before .before .before .before .before .before .before .before .before .before .before .before .before .before .before .before .before .write-run .ensures .0 0 head second))) (done (c .before .before .before .before .before .second .given .1) (c .before .before .before .before .before .before .before .before .before .write-run2 .ensures .0 0 ("usable_start_time_flag" ∷ []) ((unflagged (c .before .before .before .before .before .before .before .before .before .before .before .before .before .first .given .0 .1 .1 .0))))))) .long)
+same-length-3 c = omega (arith, ((go-on ((done (c .before .before .before .before .before .before .before .before .before .before .before .before .before .first .given .1) (c .before .before .before .before .before .before .before .before .before .before .before .before .before .before .before .before .before .write-run .ensures .0 0 names.satellite3 second))) (done (c .before .before .before .before .before .second .given .1) (c .before .before .before .before .before .before .before .before .before .write-run2 .ensures .0 0 names.start ((unflagged (c .before .before .before .before .before .before .before .before .before .before .before .before .before .first .given .0 .1 .1 .0))))))) .long)
 
 returns-3 : tie.Need-returns-3
 unfolding position3 run signOf widthOf
-returns-3 c = then ((go-on ((done (c .before .before .before .before .before .before .before .before .before .before .before .before .before .first .given .1) (c .before .before .before .before .before .before .before .before .before .before .before .before .before .before .before .before .before .write-run .ensures .0 0 head second))) (done (c .before .before .before .before .before .second .given .1) (c .before .before .before .before .before .before .before .before .before .write-run2 .ensures .0 0 ("usable_start_time_flag" ∷ []) ((unflagged (c .before .before .before .before .before .before .before .before .before .before .before .before .before .first .given .0 .1 .1 .0))))))) (c .before .before .write-unflagged .ensures)
+returns-3 c = then ((go-on ((done (c .before .before .before .before .before .before .before .before .before .before .before .before .before .first .given .1) (c .before .before .before .before .before .before .before .before .before .before .before .before .before .before .before .before .before .write-run .ensures .0 0 names.satellite3 second))) (done (c .before .before .before .before .before .second .given .1) (c .before .before .before .before .before .before .before .before .before .write-run2 .ensures .0 0 names.start ((unflagged (c .before .before .before .before .before .before .before .before .before .before .before .before .before .first .given .0 .1 .1 .0))))))) (c .before .before .write-unflagged .ensures)
 
 pub write-position3-spec : {M : Type 1} → statement M
 write-position3-spec =

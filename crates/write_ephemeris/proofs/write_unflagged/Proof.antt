@@ -1,13 +1,13 @@
 -- `write_unflagged` meets its contract: the other flags, one on top of the other, then what they announce.
 -- Assumes nothing.
-use mathlib.Core.List.{[], _∷_}
 use native.Mathlib.Omega.{arith}
 use borrow.Author.Needs.{needs}
 use Rattle.format.specs.Syntax.{Syntax}
 use Rattle.runs.specs.Lines.{run, signOf, widthOf}
+use Rattle.runs.proofs.Names as names
 use Rattle.write_runs.proofs.WentLaws.{done, stops, then, go-on}
 use Rattle.write_runs.proofs.Runs.{placed-on}
-use Prim.Native.Nat.{ℕ, _-_}
+use Prim.Native.Nat.{ℕ}
 use Rattle.format.specs.Tables.{bits}
 use Rattle.write_ephemeris.specs.Rest.{flagged}
 use Rattle.write_ephemeris.proofs.write_unflagged.Statement.{statement}
@@ -36,14 +36,14 @@ same-length c = search needs
 
 returns : tie.Need-returns
 unfolding run signOf widthOf
-returns c = stops (c .enum-told .given .1) (c .before .before .before .before .write-run .ensures .0 0 ("usable_stop_time_flag" ∷ []) ((third (c .before .before .before .before .before .before .before .before .before .args .meta) (c .before .before .before .before .before .before .before .before .before .args .start))))
+returns c = stops (c .enum-told .given .1) (c .before .before .before .before .write-run .ensures .0 0 names.stop ((third (c .before .before .before .before .before .before .before .before .before .args .meta) (c .before .before .before .before .before .before .before .before .before .args .start))))
 
 slice-aggregate-write-run-2 : tie.Need-slice-aggregate-write-run-2
 slice-aggregate-write-run-2 c = search needs
 
 write-run-requires-2 : tie.Need-write-run-requires-2
 unfolding run signOf widthOf
-write-run-requires-2 c κs = (placed-on (c .before .before .before .before .before .before .before .before .before .before .before .before .pre) ((done (c .before .before .before .third .given .1) (c .before .before .before .before .before .before .before .write-run .ensures .0 0 ("usable_stop_time_flag" ∷ []) ((third (c .before .before .before .before .before .before .before .before .before .before .before .before .args .meta) (c .before .before .before .before .before .before .before .before .before .before .before .before .args .start)))))), tt)
+write-run-requires-2 c κs = (placed-on (c .before .before .before .before .before .before .before .before .before .before .before .before .pre) ((done (c .before .before .before .third .given .1) (c .before .before .before .before .before .before .before .write-run .ensures .0 0 names.stop ((third (c .before .before .before .before .before .before .before .before .before .before .before .before .args .meta) (c .before .before .before .before .before .before .before .before .before .before .before .before .args .start)))))), tt)
 
 enum-known-fourth : tie.Need-enum-known-fourth
 enum-known-fourth c = search needs
@@ -56,14 +56,14 @@ same-length-2 c = search needs
 
 returns-2 : tie.Need-returns-2
 unfolding run signOf widthOf
-returns-2 c = then ((done (c .before .before .before .before .before .before .before .before .third .given .1) (c .before .before .before .before .before .before .before .before .before .before .before .before .write-run .ensures .0 0 ("usable_stop_time_flag" ∷ []) ((third (c .before .before .before .before .before .before .before .before .before .before .before .before .before .before .before .before .before .args .meta) (c .before .before .before .before .before .before .before .before .before .before .before .before .before .before .before .before .before .args .start)))))) (stops (c .enum-told2 .given .1) (c .before .before .before .before .write-run2 .ensures .0 0 ("ephemeris_accel_flag" ∷ []) ((fourth (c .before .before .before .before .before .before .before .before .before .before .before .before .before .before .before .before .before .args .meta) (c .before .before .before .before .before .before .before .before .before .before .before .before .before .before .before .before .before .args .start) (c .before .before .before .before .before .before .before .before .third .given .0 .1 .1 .0)))))
+returns-2 c = then ((done (c .before .before .before .before .before .before .before .before .third .given .1) (c .before .before .before .before .before .before .before .before .before .before .before .before .write-run .ensures .0 0 names.stop ((third (c .before .before .before .before .before .before .before .before .before .before .before .before .before .before .before .before .before .args .meta) (c .before .before .before .before .before .before .before .before .before .before .before .before .before .before .before .before .before .args .start)))))) (stops (c .enum-told2 .given .1) (c .before .before .before .before .write-run2 .ensures .0 0 names.accel ((fourth (c .before .before .before .before .before .before .before .before .before .before .before .before .before .before .before .before .before .args .meta) (c .before .before .before .before .before .before .before .before .before .before .before .before .before .before .before .before .before .args .start) (c .before .before .before .before .before .before .before .before .third .given .0 .1 .1 .0)))))
 
 slice-aggregate-write-run-3 : tie.Need-slice-aggregate-write-run-3
 slice-aggregate-write-run-3 c = search needs
 
 write-run-requires-3 : tie.Need-write-run-requires-3
 unfolding run signOf widthOf
-write-run-requires-3 c κs = (placed-on (c .before .before .before .before .before .before .before .before .before .before .before .before .before .before .before .before .before .before .before .before .pre) ((go-on ((done (c .before .before .before .before .before .before .before .before .before .before .before .third .given .1) (c .before .before .before .before .before .before .before .before .before .before .before .before .before .before .before .write-run .ensures .0 0 ("usable_stop_time_flag" ∷ []) ((third (c .before .before .before .before .before .before .before .before .before .before .before .before .before .before .before .before .before .before .before .before .args .meta) (c .before .before .before .before .before .before .before .before .before .before .before .before .before .before .before .before .before .before .before .before .args .start)))))) (done (c .before .before .before .fourth .given .1) (c .before .before .before .before .before .before .before .write-run2 .ensures .0 0 ("ephemeris_accel_flag" ∷ []) ((fourth (c .before .before .before .before .before .before .before .before .before .before .before .before .before .before .before .before .before .before .before .before .args .meta) (c .before .before .before .before .before .before .before .before .before .before .before .before .before .before .before .before .before .before .before .before .args .start) (c .before .before .before .before .before .before .before .before .before .before .before .third .given .0 .1 .1 .0))))))), tt)
+write-run-requires-3 c κs = (placed-on (c .before .before .before .before .before .before .before .before .before .before .before .before .before .before .before .before .before .before .before .before .pre) ((go-on ((done (c .before .before .before .before .before .before .before .before .before .before .before .third .given .1) (c .before .before .before .before .before .before .before .before .before .before .before .before .before .before .before .write-run .ensures .0 0 names.stop ((third (c .before .before .before .before .before .before .before .before .before .before .before .before .before .before .before .before .before .before .before .before .args .meta) (c .before .before .before .before .before .before .before .before .before .before .before .before .before .before .before .before .before .before .before .before .args .start)))))) (done (c .before .before .before .fourth .given .1) (c .before .before .before .before .before .before .before .write-run2 .ensures .0 0 names.accel ((fourth (c .before .before .before .before .before .before .before .before .before .before .before .before .before .before .before .before .before .before .before .before .args .meta) (c .before .before .before .before .before .before .before .before .before .before .before .before .before .before .before .before .before .before .before .before .args .start) (c .before .before .before .before .before .before .before .before .before .before .before .third .given .0 .1 .1 .0))))))), tt)
 
 enum-known-fifth : tie.Need-enum-known-fifth
 enum-known-fifth c = search needs
@@ -73,23 +73,23 @@ enum-told-3 c = search needs
 
 same-length-3 : tie.Need-same-length-3
 unfolding run signOf widthOf
-same-length-3 c = omega (arith, ((go-on ((done (c .before .before .before .before .before .before .before .before .before .before .before .before .before .before .before .before .third .given .1) (c .before .before .before .before .before .before .before .before .before .before .before .before .before .before .before .before .before .before .before .before .write-run .ensures .0 0 ("usable_stop_time_flag" ∷ []) ((third (c .before .before .before .before .before .before .before .before .before .before .before .before .before .before .before .before .before .before .before .before .before .before .before .before .before .args .meta) (c .before .before .before .before .before .before .before .before .before .before .before .before .before .before .before .before .before .before .before .before .before .before .before .before .before .args .start)))))) (done (c .before .before .before .before .before .before .before .before .fourth .given .1) (c .before .before .before .before .before .before .before .before .before .before .before .before .write-run2 .ensures .0 0 ("ephemeris_accel_flag" ∷ []) ((fourth (c .before .before .before .before .before .before .before .before .before .before .before .before .before .before .before .before .before .before .before .before .before .before .before .before .before .args .meta) (c .before .before .before .before .before .before .before .before .before .before .before .before .before .before .before .before .before .before .before .before .before .before .before .before .before .args .start) (c .before .before .before .before .before .before .before .before .before .before .before .before .before .before .before .before .third .given .0 .1 .1 .0))))))) .long)
+same-length-3 c = omega (arith, ((go-on ((done (c .before .before .before .before .before .before .before .before .before .before .before .before .before .before .before .before .third .given .1) (c .before .before .before .before .before .before .before .before .before .before .before .before .before .before .before .before .before .before .before .before .write-run .ensures .0 0 names.stop ((third (c .before .before .before .before .before .before .before .before .before .before .before .before .before .before .before .before .before .before .before .before .before .before .before .before .before .args .meta) (c .before .before .before .before .before .before .before .before .before .before .before .before .before .before .before .before .before .before .before .before .before .before .before .before .before .args .start)))))) (done (c .before .before .before .before .before .before .before .before .fourth .given .1) (c .before .before .before .before .before .before .before .before .before .before .before .before .write-run2 .ensures .0 0 names.accel ((fourth (c .before .before .before .before .before .before .before .before .before .before .before .before .before .before .before .before .before .before .before .before .before .before .before .before .before .args .meta) (c .before .before .before .before .before .before .before .before .before .before .before .before .before .before .before .before .before .before .before .before .before .before .before .before .before .args .start) (c .before .before .before .before .before .before .before .before .before .before .before .before .before .before .before .before .third .given .0 .1 .1 .0))))))) .long)
 
 returns-3 : tie.Need-returns-3
 unfolding run signOf widthOf
-returns-3 c = then ((go-on ((done (c .before .before .before .before .before .before .before .before .before .before .before .before .before .before .before .before .third .given .1) (c .before .before .before .before .before .before .before .before .before .before .before .before .before .before .before .before .before .before .before .before .write-run .ensures .0 0 ("usable_stop_time_flag" ∷ []) ((third (c .before .before .before .before .before .before .before .before .before .before .before .before .before .before .before .before .before .before .before .before .before .before .before .before .before .args .meta) (c .before .before .before .before .before .before .before .before .before .before .before .before .before .before .before .before .before .before .before .before .before .before .before .before .before .args .start)))))) (done (c .before .before .before .before .before .before .before .before .fourth .given .1) (c .before .before .before .before .before .before .before .before .before .before .before .before .write-run2 .ensures .0 0 ("ephemeris_accel_flag" ∷ []) ((fourth (c .before .before .before .before .before .before .before .before .before .before .before .before .before .before .before .before .before .before .before .before .before .before .before .before .before .args .meta) (c .before .before .before .before .before .before .before .before .before .before .before .before .before .before .before .before .before .before .before .before .before .before .before .before .before .args .start) (c .before .before .before .before .before .before .before .before .before .before .before .before .before .before .before .before .third .given .0 .1 .1 .0))))))) (stops (c .enum-told3 .given .1) (c .before .before .before .before .write-run3 .ensures .0 0 ("covariance_flag" ∷ []) ((flagged (c .before .before .before .before .before .before .before .before .before .before .before .before .before .before .before .before .before .before .before .before .before .before .before .before .before .args .meta) (c .before .before .before .before .before .before .before .before .before .before .before .before .before .before .before .before .before .before .before .before .before .before .before .before .before .args .start) (c .before .before .before .before .before .before .before .before .before .before .before .before .before .before .before .before .third .given .0 .1 .1 .0) (c .before .before .before .before .before .before .before .before .fourth .given .0 .1 .1 .0)))))
+returns-3 c = then ((go-on ((done (c .before .before .before .before .before .before .before .before .before .before .before .before .before .before .before .before .third .given .1) (c .before .before .before .before .before .before .before .before .before .before .before .before .before .before .before .before .before .before .before .before .write-run .ensures .0 0 names.stop ((third (c .before .before .before .before .before .before .before .before .before .before .before .before .before .before .before .before .before .before .before .before .before .before .before .before .before .args .meta) (c .before .before .before .before .before .before .before .before .before .before .before .before .before .before .before .before .before .before .before .before .before .before .before .before .before .args .start)))))) (done (c .before .before .before .before .before .before .before .before .fourth .given .1) (c .before .before .before .before .before .before .before .before .before .before .before .before .write-run2 .ensures .0 0 names.accel ((fourth (c .before .before .before .before .before .before .before .before .before .before .before .before .before .before .before .before .before .before .before .before .before .before .before .before .before .args .meta) (c .before .before .before .before .before .before .before .before .before .before .before .before .before .before .before .before .before .before .before .before .before .before .before .before .before .args .start) (c .before .before .before .before .before .before .before .before .before .before .before .before .before .before .before .before .third .given .0 .1 .1 .0))))))) (stops (c .enum-told3 .given .1) (c .before .before .before .before .write-run3 .ensures .0 0 names.cov ((flagged (c .before .before .before .before .before .before .before .before .before .before .before .before .before .before .before .before .before .before .before .before .before .before .before .before .before .args .meta) (c .before .before .before .before .before .before .before .before .before .before .before .before .before .before .before .before .before .before .before .before .before .before .before .before .before .args .start) (c .before .before .before .before .before .before .before .before .before .before .before .before .before .before .before .before .third .given .0 .1 .1 .0) (c .before .before .before .before .before .before .before .before .fourth .given .0 .1 .1 .0)))))
 
 write-flagged-requires : tie.Need-write-flagged-requires
 unfolding run signOf widthOf
-write-flagged-requires c κs = placed-on (c .before .before .before .before .before .before .before .before .before .before .before .before .before .before .before .before .before .before .before .before .before .before .before .before .before .before .before .pre) ((go-on ((go-on ((done (c .before .before .before .before .before .before .before .before .before .before .before .before .before .before .before .before .before .before .third .given .1) (c .before .before .before .before .before .before .before .before .before .before .before .before .before .before .before .before .before .before .before .before .before .before .write-run .ensures .0 0 ("usable_stop_time_flag" ∷ []) ((third (c .before .before .before .before .before .before .before .before .before .before .before .before .before .before .before .before .before .before .before .before .before .before .before .before .before .before .before .args .meta) (c .before .before .before .before .before .before .before .before .before .before .before .before .before .before .before .before .before .before .before .before .before .before .before .before .before .before .before .args .start)))))) (done (c .before .before .before .before .before .before .before .before .before .before .fourth .given .1) (c .before .before .before .before .before .before .before .before .before .before .before .before .before .before .write-run2 .ensures .0 0 ("ephemeris_accel_flag" ∷ []) ((fourth (c .before .before .before .before .before .before .before .before .before .before .before .before .before .before .before .before .before .before .before .before .before .before .before .before .before .before .before .args .meta) (c .before .before .before .before .before .before .before .before .before .before .before .before .before .before .before .before .before .before .before .before .before .before .before .before .before .before .before .args .start) (c .before .before .before .before .before .before .before .before .before .before .before .before .before .before .before .before .before .before .third .given .0 .1 .1 .0))))))) (done (c .before .before .fifth .given .1) (c .before .before .before .before .before .before .write-run3 .ensures .0 0 ("covariance_flag" ∷ []) ((flagged (c .before .before .before .before .before .before .before .before .before .before .before .before .before .before .before .before .before .before .before .before .before .before .before .before .before .before .before .args .meta) (c .before .before .before .before .before .before .before .before .before .before .before .before .before .before .before .before .before .before .before .before .before .before .before .before .before .before .before .args .start) (c .before .before .before .before .before .before .before .before .before .before .before .before .before .before .before .before .before .before .third .given .0 .1 .1 .0) (c .before .before .before .before .before .before .before .before .before .before .fourth .given .0 .1 .1 .0)))))))
+write-flagged-requires c κs = placed-on (c .before .before .before .before .before .before .before .before .before .before .before .before .before .before .before .before .before .before .before .before .before .before .before .before .before .before .before .pre) ((go-on ((go-on ((done (c .before .before .before .before .before .before .before .before .before .before .before .before .before .before .before .before .before .before .third .given .1) (c .before .before .before .before .before .before .before .before .before .before .before .before .before .before .before .before .before .before .before .before .before .before .write-run .ensures .0 0 names.stop ((third (c .before .before .before .before .before .before .before .before .before .before .before .before .before .before .before .before .before .before .before .before .before .before .before .before .before .before .before .args .meta) (c .before .before .before .before .before .before .before .before .before .before .before .before .before .before .before .before .before .before .before .before .before .before .before .before .before .before .before .args .start)))))) (done (c .before .before .before .before .before .before .before .before .before .before .fourth .given .1) (c .before .before .before .before .before .before .before .before .before .before .before .before .before .before .write-run2 .ensures .0 0 names.accel ((fourth (c .before .before .before .before .before .before .before .before .before .before .before .before .before .before .before .before .before .before .before .before .before .before .before .before .before .before .before .args .meta) (c .before .before .before .before .before .before .before .before .before .before .before .before .before .before .before .before .before .before .before .before .before .before .before .before .before .before .before .args .start) (c .before .before .before .before .before .before .before .before .before .before .before .before .before .before .before .before .before .before .third .given .0 .1 .1 .0))))))) (done (c .before .before .fifth .given .1) (c .before .before .before .before .before .before .write-run3 .ensures .0 0 names.cov ((flagged (c .before .before .before .before .before .before .before .before .before .before .before .before .before .before .before .before .before .before .before .before .before .before .before .before .before .before .before .args .meta) (c .before .before .before .before .before .before .before .before .before .before .before .before .before .before .before .before .before .before .before .before .before .before .before .before .before .before .before .args .start) (c .before .before .before .before .before .before .before .before .before .before .before .before .before .before .before .before .before .before .third .given .0 .1 .1 .0) (c .before .before .before .before .before .before .before .before .before .before .fourth .given .0 .1 .1 .0)))))))
 
 same-length-4 : tie.Need-same-length-4
 unfolding run signOf widthOf
-same-length-4 c = omega (arith, ((go-on ((go-on ((done (c .before .before .before .before .before .before .before .before .before .before .before .before .before .before .before .before .before .before .before .before .before .third .given .1) (c .before .before .before .before .before .before .before .before .before .before .before .before .before .before .before .before .before .before .before .before .before .before .before .before .before .write-run .ensures .0 0 ("usable_stop_time_flag" ∷ []) ((third (c .before .before .before .before .before .before .before .before .before .before .before .before .before .before .before .before .before .before .before .before .before .before .before .before .before .before .before .before .before .before .args .meta) (c .before .before .before .before .before .before .before .before .before .before .before .before .before .before .before .before .before .before .before .before .before .before .before .before .before .before .before .before .before .before .args .start)))))) (done (c .before .before .before .before .before .before .before .before .before .before .before .before .before .fourth .given .1) (c .before .before .before .before .before .before .before .before .before .before .before .before .before .before .before .before .before .write-run2 .ensures .0 0 ("ephemeris_accel_flag" ∷ []) ((fourth (c .before .before .before .before .before .before .before .before .before .before .before .before .before .before .before .before .before .before .before .before .before .before .before .before .before .before .before .before .before .before .args .meta) (c .before .before .before .before .before .before .before .before .before .before .before .before .before .before .before .before .before .before .before .before .before .before .before .before .before .before .before .before .before .before .args .start) (c .before .before .before .before .before .before .before .before .before .before .before .before .before .before .before .before .before .before .before .before .before .third .given .0 .1 .1 .0))))))) (done (c .before .before .before .before .before .fifth .given .1) (c .before .before .before .before .before .before .before .before .before .write-run3 .ensures .0 0 ("covariance_flag" ∷ []) ((flagged (c .before .before .before .before .before .before .before .before .before .before .before .before .before .before .before .before .before .before .before .before .before .before .before .before .before .before .before .before .before .before .args .meta) (c .before .before .before .before .before .before .before .before .before .before .before .before .before .before .before .before .before .before .before .before .before .before .before .before .before .before .before .before .before .before .args .start) (c .before .before .before .before .before .before .before .before .before .before .before .before .before .before .before .before .before .before .before .before .before .third .given .0 .1 .1 .0) (c .before .before .before .before .before .before .before .before .before .before .before .before .before .fourth .given .0 .1 .1 .0))))))) .long)
+same-length-4 c = omega (arith, ((go-on ((go-on ((done (c .before .before .before .before .before .before .before .before .before .before .before .before .before .before .before .before .before .before .before .before .before .third .given .1) (c .before .before .before .before .before .before .before .before .before .before .before .before .before .before .before .before .before .before .before .before .before .before .before .before .before .write-run .ensures .0 0 names.stop ((third (c .before .before .before .before .before .before .before .before .before .before .before .before .before .before .before .before .before .before .before .before .before .before .before .before .before .before .before .before .before .before .args .meta) (c .before .before .before .before .before .before .before .before .before .before .before .before .before .before .before .before .before .before .before .before .before .before .before .before .before .before .before .before .before .before .args .start)))))) (done (c .before .before .before .before .before .before .before .before .before .before .before .before .before .fourth .given .1) (c .before .before .before .before .before .before .before .before .before .before .before .before .before .before .before .before .before .write-run2 .ensures .0 0 names.accel ((fourth (c .before .before .before .before .before .before .before .before .before .before .before .before .before .before .before .before .before .before .before .before .before .before .before .before .before .before .before .before .before .before .args .meta) (c .before .before .before .before .before .before .before .before .before .before .before .before .before .before .before .before .before .before .before .before .before .before .before .before .before .before .before .before .before .before .args .start) (c .before .before .before .before .before .before .before .before .before .before .before .before .before .before .before .before .before .before .before .before .before .third .given .0 .1 .1 .0))))))) (done (c .before .before .before .before .before .fifth .given .1) (c .before .before .before .before .before .before .before .before .before .write-run3 .ensures .0 0 names.cov ((flagged (c .before .before .before .before .before .before .before .before .before .before .before .before .before .before .before .before .before .before .before .before .before .before .before .before .before .before .before .before .before .before .args .meta) (c .before .before .before .before .before .before .before .before .before .before .before .before .before .before .before .before .before .before .before .before .before .before .before .before .before .before .before .before .before .before .args .start) (c .before .before .before .before .before .before .before .before .before .before .before .before .before .before .before .before .before .before .before .before .before .third .given .0 .1 .1 .0) (c .before .before .before .before .before .before .before .before .before .before .before .before .before .fourth .given .0 .1 .1 .0))))))) .long)
 
 returns-4 : tie.Need-returns-4
 unfolding run signOf widthOf
-returns-4 c = then ((go-on ((go-on ((done (c .before .before .before .before .before .before .before .before .before .before .before .before .before .before .before .before .before .before .before .before .before .third .given .1) (c .before .before .before .before .before .before .before .before .before .before .before .before .before .before .before .before .before .before .before .before .before .before .before .before .before .write-run .ensures .0 0 ("usable_stop_time_flag" ∷ []) ((third (c .before .before .before .before .before .before .before .before .before .before .before .before .before .before .before .before .before .before .before .before .before .before .before .before .before .before .before .before .before .before .args .meta) (c .before .before .before .before .before .before .before .before .before .before .before .before .before .before .before .before .before .before .before .before .before .before .before .before .before .before .before .before .before .before .args .start)))))) (done (c .before .before .before .before .before .before .before .before .before .before .before .before .before .fourth .given .1) (c .before .before .before .before .before .before .before .before .before .before .before .before .before .before .before .before .before .write-run2 .ensures .0 0 ("ephemeris_accel_flag" ∷ []) ((fourth (c .before .before .before .before .before .before .before .before .before .before .before .before .before .before .before .before .before .before .before .before .before .before .before .before .before .before .before .before .before .before .args .meta) (c .before .before .before .before .before .before .before .before .before .before .before .before .before .before .before .before .before .before .before .before .before .before .before .before .before .before .before .before .before .before .args .start) (c .before .before .before .before .before .before .before .before .before .before .before .before .before .before .before .before .before .before .before .before .before .third .given .0 .1 .1 .0))))))) (done (c .before .before .before .before .before .fifth .given .1) (c .before .before .before .before .before .before .before .before .before .write-run3 .ensures .0 0 ("covariance_flag" ∷ []) ((flagged (c .before .before .before .before .before .before .before .before .before .before .before .before .before .before .before .before .before .before .before .before .before .before .before .before .before .before .before .before .before .before .args .meta) (c .before .before .before .before .before .before .before .before .before .before .before .before .before .before .before .before .before .before .before .before .before .before .before .before .before .before .before .before .before .before .args .start) (c .before .before .before .before .before .before .before .before .before .before .before .before .before .before .before .before .before .before .before .before .before .third .given .0 .1 .1 .0) (c .before .before .before .before .before .before .before .before .before .before .before .before .before .fourth .given .0 .1 .1 .0))))))) (c .before .before .write-flagged .ensures)
+returns-4 c = then ((go-on ((go-on ((done (c .before .before .before .before .before .before .before .before .before .before .before .before .before .before .before .before .before .before .before .before .before .third .given .1) (c .before .before .before .before .before .before .before .before .before .before .before .before .before .before .before .before .before .before .before .before .before .before .before .before .before .write-run .ensures .0 0 names.stop ((third (c .before .before .before .before .before .before .before .before .before .before .before .before .before .before .before .before .before .before .before .before .before .before .before .before .before .before .before .before .before .before .args .meta) (c .before .before .before .before .before .before .before .before .before .before .before .before .before .before .before .before .before .before .before .before .before .before .before .before .before .before .before .before .before .before .args .start)))))) (done (c .before .before .before .before .before .before .before .before .before .before .before .before .before .fourth .given .1) (c .before .before .before .before .before .before .before .before .before .before .before .before .before .before .before .before .before .write-run2 .ensures .0 0 names.accel ((fourth (c .before .before .before .before .before .before .before .before .before .before .before .before .before .before .before .before .before .before .before .before .before .before .before .before .before .before .before .before .before .before .args .meta) (c .before .before .before .before .before .before .before .before .before .before .before .before .before .before .before .before .before .before .before .before .before .before .before .before .before .before .before .before .before .before .args .start) (c .before .before .before .before .before .before .before .before .before .before .before .before .before .before .before .before .before .before .before .before .before .third .given .0 .1 .1 .0))))))) (done (c .before .before .before .before .before .fifth .given .1) (c .before .before .before .before .before .before .before .before .before .write-run3 .ensures .0 0 names.cov ((flagged (c .before .before .before .before .before .before .before .before .before .before .before .before .before .before .before .before .before .before .before .before .before .before .before .before .before .before .before .before .before .before .args .meta) (c .before .before .before .before .before .before .before .before .before .before .before .before .before .before .before .before .before .before .before .before .before .before .before .before .before .before .before .before .before .before .args .start) (c .before .before .before .before .before .before .before .before .before .before .before .before .before .before .before .before .before .before .before .before .before .third .given .0 .1 .1 .0) (c .before .before .before .before .before .before .before .before .before .before .before .before .before .fourth .given .0 .1 .1 .0))))))) (c .before .before .write-flagged .ensures)
 
 pub write-unflagged-spec : {M : Type 1} → statement M
 write-unflagged-spec =

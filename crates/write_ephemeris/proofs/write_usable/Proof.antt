@@ -1,18 +1,13 @@
 -- `write_usable` meets its contract: a usable time, where its flag is 1.
 -- Assumes nothing.
-use mathlib.Core.List.{List, [], _∷_}
+use mathlib.Core.List.{[]}
 use borrow.Author.Needs.{needs}
-use Rattle.format.specs.Syntax.{Name}
 use Rattle.runs.specs.Lines.{run, signOf, widthOf}
+use Rattle.runs.proofs.Names as names
 use Rattle.write_runs.proofs.WentLaws.{starts, stay, when-yes, when-no}
 use borrow.Author.Tests.{eq-eqb, ne-eqb}
-use Prim.Native.Nat.{_+_, _-_}
-use Prim.Native.String.{_++_}
 use Rattle.write_ephemeris.proofs.write_usable.Statement.{statement}
 use Rattle.write_ephemeris.proofs.write_usable.Tie as tie
-
-abbrev names : Name → List Name
-names t = (t ++ "_year") ∷ (t ++ "_reserved_zero_future_use") ∷ (t ++ "_day") ∷ (t ++ "_day_fraction") ∷ []
 
 slice-aggregate-write-needed : tie.Need-slice-aggregate-write-needed
 slice-aggregate-write-needed c = search needs
@@ -25,7 +20,7 @@ same-length c = search needs
 
 returns : tie.Need-returns
 unfolding run signOf widthOf
-returns c = λ nm s. starts (when-yes _ _ _ _ _ _ (eq-eqb _ _ (c .before .before .before .before .before .if1 .taken))) (c .before .before .write-needed .ensures .0 0 (names nm) (λ _. s))
+returns c = λ nm s. starts (when-yes _ _ _ _ _ _ (eq-eqb _ _ (c .before .before .before .before .before .if1 .taken))) (c .before .before .write-needed .ensures .0 0 (names.stamp nm []) (λ _. s))
 
 returns-2 : tie.Need-returns-2
 returns-2 c = λ nm s. starts (when-no _ _ _ _ _ _ (ne-eqb _ _ (c .if1 .left))) (record { to = stay (c .before .before .before .pre .within) })

@@ -1,14 +1,14 @@
 -- `write_fragment` meets its contract: the runs of id 1, one on top of the other.
 -- Assumes nothing.
 use Prim.Native.Nat.{ℕ}
-use mathlib.Core.List.{List, [], _∷_}
 use native.Mathlib.Omega.{arith}
 use borrow.Author.Needs.{needs}
 use borrow.Author.Tests.{eq-eqb, ne-eqb}
 use lib.Dec.{eqb}
-use Rattle.format.specs.Syntax.{Name, Syntax, when}
+use Rattle.format.specs.Syntax.{Syntax, when}
 use Rattle.format.specs.Tables.{u, fragment, centre, delivery}
 use Rattle.runs.specs.Lines.{run, signOf, widthOf}
+use Rattle.runs.proofs.Names as names
 use Rattle.write_runs.proofs.WentLaws.{done, stops, starts, then, go-on, when-yes, when-no}
 use Rattle.write_runs.proofs.Runs.{placed-on, last-of}
 use Rattle.write_tables.specs.Lists.{lists}
@@ -17,18 +17,6 @@ use Rattle.write_tables.proofs.write_fragment.Tie as tie
 
 abbrev middle : ℕ → Syntax
 middle first = when (eqb first 1) centre (u "reserved_zero_future_use_4" 4 delivery)
-
-abbrev cell : List Name
-cell = "cell_fragment_id" ∷ "first_occurrence" ∷ []
-
-abbrev last : List Name
-last = "last_occurrence" ∷ []
-
-abbrev with : List Name
-with = "centre.reserved_zero_future_use_4" ∷ "centre_latitude" ∷ "centre.reserved_zero_future_use_5" ∷ "centre_longitude" ∷ "max_distance" ∷ "centre.reserved_zero_future_use_6" ∷ "delivery_system_count" ∷ []
-
-abbrev without : List Name
-without = "reserved_zero_future_use_4" ∷ "delivery_system_count" ∷ []
 
 slice-aggregate-write-run : tie.Need-slice-aggregate-write-run
 slice-aggregate-write-run c = search needs
@@ -47,13 +35,13 @@ same-length c = search needs
 
 returns : tie.Need-returns
 unfolding fragment run signOf widthOf
-returns c = stops (c .enum-told .given .1) (c .before .before .before .before .write-run .ensures .0 0 cell (λ v. u "last_occurrence" 1 (middle v)))
+returns c = stops (c .enum-told .given .1) (c .before .before .before .before .write-run .ensures .0 0 names.cell (λ v. u "last_occurrence" 1 (middle v)))
 
 slice-aggregate-write-run-2 : tie.Need-slice-aggregate-write-run-2
 slice-aggregate-write-run-2 c = search needs
 
 write-run-requires-2 : tie.Need-write-run-requires-2
-write-run-requires-2 c κs = (placed-on (c .before .before .before .before .before .before .before .before .before .before .before .before .pre) (done (c .before .before .before .cell .given .1) (c .before .before .before .before .before .before .before .write-run .ensures .0 0 cell (λ v. u "last_occurrence" 1 (middle v)))), tt)
+write-run-requires-2 c κs = (placed-on (c .before .before .before .before .before .before .before .before .before .before .before .before .pre) (done (c .before .before .before .cell .given .1) (c .before .before .before .before .before .before .before .write-run .ensures .0 0 names.cell (λ v. u "last_occurrence" 1 (middle v)))), tt)
 
 enum-known-flag : tie.Need-enum-known-flag
 enum-known-flag c = search needs
@@ -66,14 +54,14 @@ same-length-2 c = search needs
 
 returns-2 : tie.Need-returns-2
 unfolding fragment run signOf widthOf
-returns-2 c = then (done (c .before .before .before .before .before .before .before .before .cell .given .1) (c .before .before .before .before .before .before .before .before .before .before .before .before .write-run .ensures .0 0 cell (λ v. u "last_occurrence" 1 (middle v)))) (stops (c .enum-told2 .given .1) (c .before .before .before .before .write-run2 .ensures .0 0 last ((λ _. middle (c .before .before .before .before .before .before .before .before .cell .given .0 .1 .1 .0)))))
+returns-2 c = then (done (c .before .before .before .before .before .before .before .before .cell .given .1) (c .before .before .before .before .before .before .before .before .before .before .before .before .write-run .ensures .0 0 names.cell (λ v. u "last_occurrence" 1 (middle v)))) (stops (c .enum-told2 .given .1) (c .before .before .before .before .write-run2 .ensures .0 0 names.last ((λ _. middle (c .before .before .before .before .before .before .before .before .cell .given .0 .1 .1 .0)))))
 
 slice-aggregate-write-needed : tie.Need-slice-aggregate-write-needed
 slice-aggregate-write-needed c = search needs
 
 write-needed-requires : tie.Need-write-needed-requires
 unfolding run signOf widthOf
-write-needed-requires c κs = (placed-on (c .before .before .before .before .before .before .before .before .before .before .before .before .before .before .before .before .before .before .before .before .before .pre) (go-on (done (c .before .before .before .before .before .before .before .before .before .before .before .before .cell .given .1) (c .before .before .before .before .before .before .before .before .before .before .before .before .before .before .before .before .write-run .ensures .0 0 cell (λ v. u "last_occurrence" 1 (middle v)))) (done (c .before .before .before .before .flag .given .1) (c .before .before .before .before .before .before .before .before .write-run2 .ensures .0 0 last ((λ _. middle (c .before .before .before .before .before .before .before .before .before .before .before .before .cell .given .0 .1 .1 .0)))))), tt)
+write-needed-requires c κs = (placed-on (c .before .before .before .before .before .before .before .before .before .before .before .before .before .before .before .before .before .before .before .before .before .pre) (go-on (done (c .before .before .before .before .before .before .before .before .before .before .before .before .cell .given .1) (c .before .before .before .before .before .before .before .before .before .before .before .before .before .before .before .before .write-run .ensures .0 0 names.cell (λ v. u "last_occurrence" 1 (middle v)))) (done (c .before .before .before .before .flag .given .1) (c .before .before .before .before .before .before .before .before .write-run2 .ensures .0 0 names.last ((λ _. middle (c .before .before .before .before .before .before .before .before .before .before .before .before .cell .given .0 .1 .1 .0)))))), tt)
 
 enum-known-centre : tie.Need-enum-known-centre
 enum-known-centre c = search needs
@@ -86,26 +74,26 @@ same-length-3 c = search needs
 
 returns-3 : tie.Need-returns-3
 unfolding fragment run signOf widthOf
-returns-3 c = then (go-on (done (c .before .before .before .before .before .before .before .before .before .before .before .before .before .before .before .before .before .cell .given .1) (c .before .before .before .before .before .before .before .before .before .before .before .before .before .before .before .before .before .before .before .before .before .write-run .ensures .0 0 cell (λ v. u "last_occurrence" 1 (middle v)))) (done (c .before .before .before .before .before .before .before .before .before .flag .given .1) (c .before .before .before .before .before .before .before .before .before .before .before .before .before .write-run2 .ensures .0 0 last ((λ _. middle (c .before .before .before .before .before .before .before .before .before .before .before .before .before .before .before .before .before .cell .given .0 .1 .1 .0)))))) ((starts (when-yes _ _ _ _ _ _ (eq-eqb _ _ (c .before .before .before .before .before .before .before .if1 .taken)))) (stops (c .enum-told3 .given .1) (c .before .before .before .before .write-needed .ensures .0 0 with lists)))
+returns-3 c = then (go-on (done (c .before .before .before .before .before .before .before .before .before .before .before .before .before .before .before .before .before .cell .given .1) (c .before .before .before .before .before .before .before .before .before .before .before .before .before .before .before .before .before .before .before .before .before .write-run .ensures .0 0 names.cell (λ v. u "last_occurrence" 1 (middle v)))) (done (c .before .before .before .before .before .before .before .before .before .flag .given .1) (c .before .before .before .before .before .before .before .before .before .before .before .before .before .write-run2 .ensures .0 0 names.last ((λ _. middle (c .before .before .before .before .before .before .before .before .before .before .before .before .before .before .before .before .before .cell .given .0 .1 .1 .0)))))) ((starts (when-yes _ _ _ _ _ _ (eq-eqb _ _ (c .before .before .before .before .before .before .before .if1 .taken)))) (stops (c .enum-told3 .given .1) (c .before .before .before .before .write-needed .ensures .0 0 names.centre lists)))
 
 write-lists-requires : tie.Need-write-lists-requires
 unfolding run signOf widthOf
-write-lists-requires c κs = (placed-on (c .before .before .before .before .before .before .before .before .before .before .before .before .before .before .before .before .before .before .before .before .before .before .before .before .before .before .before .before .pre) (go-on (go-on (done (c .before .before .before .before .before .before .before .before .before .before .before .before .before .before .before .before .before .before .before .cell .given .1) (c .before .before .before .before .before .before .before .before .before .before .before .before .before .before .before .before .before .before .before .before .before .before .before .write-run .ensures .0 0 cell (λ v. u "last_occurrence" 1 (middle v)))) (done (c .before .before .before .before .before .before .before .before .before .before .before .flag .given .1) (c .before .before .before .before .before .before .before .before .before .before .before .before .before .before .before .write-run2 .ensures .0 0 last ((λ _. middle (c .before .before .before .before .before .before .before .before .before .before .before .before .before .before .before .before .before .before .before .cell .given .0 .1 .1 .0)))))) (done (c .before .before .centre .given .1) ((starts (when-yes _ _ _ _ _ _ (eq-eqb _ _ (c .before .before .before .before .before .before .before .before .before .if1 .taken)))) (c .before .before .before .before .before .before .write-needed .ensures .0 0 with lists)))), omega (arith, last-of (c .before .before .centre .given .1) (c .before .before .before .before .before .before .write-needed .ensures .1 .0)))
+write-lists-requires c κs = (placed-on (c .before .before .before .before .before .before .before .before .before .before .before .before .before .before .before .before .before .before .before .before .before .before .before .before .before .before .before .before .pre) (go-on (go-on (done (c .before .before .before .before .before .before .before .before .before .before .before .before .before .before .before .before .before .before .before .cell .given .1) (c .before .before .before .before .before .before .before .before .before .before .before .before .before .before .before .before .before .before .before .before .before .before .before .write-run .ensures .0 0 names.cell (λ v. u "last_occurrence" 1 (middle v)))) (done (c .before .before .before .before .before .before .before .before .before .before .before .flag .given .1) (c .before .before .before .before .before .before .before .before .before .before .before .before .before .before .before .write-run2 .ensures .0 0 names.last ((λ _. middle (c .before .before .before .before .before .before .before .before .before .before .before .before .before .before .before .before .before .before .before .cell .given .0 .1 .1 .0)))))) (done (c .before .before .centre .given .1) ((starts (when-yes _ _ _ _ _ _ (eq-eqb _ _ (c .before .before .before .before .before .before .before .before .before .if1 .taken)))) (c .before .before .before .before .before .before .write-needed .ensures .0 0 names.centre lists)))), omega (arith, last-of (c .before .before .centre .given .1) (c .before .before .before .before .before .before .write-needed .ensures .1 .0)))
 
 same-length-4 : tie.Need-same-length-4
 unfolding run signOf widthOf
-same-length-4 c = omega (arith, (go-on (go-on (done (c .before .before .before .before .before .before .before .before .before .before .before .before .before .before .before .before .before .before .before .before .before .before .cell .given .1) (c .before .before .before .before .before .before .before .before .before .before .before .before .before .before .before .before .before .before .before .before .before .before .before .before .before .before .write-run .ensures .0 0 cell (λ v. u "last_occurrence" 1 (middle v)))) (done (c .before .before .before .before .before .before .before .before .before .before .before .before .before .before .flag .given .1) (c .before .before .before .before .before .before .before .before .before .before .before .before .before .before .before .before .before .before .write-run2 .ensures .0 0 last ((λ _. middle (c .before .before .before .before .before .before .before .before .before .before .before .before .before .before .before .before .before .before .before .before .before .before .cell .given .0 .1 .1 .0)))))) (done (c .before .before .before .before .before .centre .given .1) ((starts (when-yes _ _ _ _ _ _ (eq-eqb _ _ (c .before .before .before .before .before .before .before .before .before .before .before .before .if1 .taken)))) (c .before .before .before .before .before .before .before .before .before .write-needed .ensures .0 0 with lists)))) .long)
+same-length-4 c = omega (arith, (go-on (go-on (done (c .before .before .before .before .before .before .before .before .before .before .before .before .before .before .before .before .before .before .before .before .before .before .cell .given .1) (c .before .before .before .before .before .before .before .before .before .before .before .before .before .before .before .before .before .before .before .before .before .before .before .before .before .before .write-run .ensures .0 0 names.cell (λ v. u "last_occurrence" 1 (middle v)))) (done (c .before .before .before .before .before .before .before .before .before .before .before .before .before .before .flag .given .1) (c .before .before .before .before .before .before .before .before .before .before .before .before .before .before .before .before .before .before .write-run2 .ensures .0 0 names.last ((λ _. middle (c .before .before .before .before .before .before .before .before .before .before .before .before .before .before .before .before .before .before .before .before .before .before .cell .given .0 .1 .1 .0)))))) (done (c .before .before .before .before .before .centre .given .1) ((starts (when-yes _ _ _ _ _ _ (eq-eqb _ _ (c .before .before .before .before .before .before .before .before .before .before .before .before .if1 .taken)))) (c .before .before .before .before .before .before .before .before .before .write-needed .ensures .0 0 names.centre lists)))) .long)
 
 returns-4 : tie.Need-returns-4
 unfolding fragment run signOf widthOf
-returns-4 c = then (go-on (go-on (done (c .before .before .before .before .before .before .before .before .before .before .before .before .before .before .before .before .before .before .before .before .before .before .cell .given .1) (c .before .before .before .before .before .before .before .before .before .before .before .before .before .before .before .before .before .before .before .before .before .before .before .before .before .before .write-run .ensures .0 0 cell (λ v. u "last_occurrence" 1 (middle v)))) (done (c .before .before .before .before .before .before .before .before .before .before .before .before .before .before .flag .given .1) (c .before .before .before .before .before .before .before .before .before .before .before .before .before .before .before .before .before .before .write-run2 .ensures .0 0 last ((λ _. middle (c .before .before .before .before .before .before .before .before .before .before .before .before .before .before .before .before .before .before .before .before .before .before .cell .given .0 .1 .1 .0)))))) (done (c .before .before .before .before .before .centre .given .1) ((starts (when-yes _ _ _ _ _ _ (eq-eqb _ _ (c .before .before .before .before .before .before .before .before .before .before .before .before .if1 .taken)))) (c .before .before .before .before .before .before .before .before .before .write-needed .ensures .0 0 with lists)))) (c .before .before .write-lists .ensures)
+returns-4 c = then (go-on (go-on (done (c .before .before .before .before .before .before .before .before .before .before .before .before .before .before .before .before .before .before .before .before .before .before .cell .given .1) (c .before .before .before .before .before .before .before .before .before .before .before .before .before .before .before .before .before .before .before .before .before .before .before .before .before .before .write-run .ensures .0 0 names.cell (λ v. u "last_occurrence" 1 (middle v)))) (done (c .before .before .before .before .before .before .before .before .before .before .before .before .before .before .flag .given .1) (c .before .before .before .before .before .before .before .before .before .before .before .before .before .before .before .before .before .before .write-run2 .ensures .0 0 names.last ((λ _. middle (c .before .before .before .before .before .before .before .before .before .before .before .before .before .before .before .before .before .before .before .before .before .before .cell .given .0 .1 .1 .0)))))) (done (c .before .before .before .before .before .centre .given .1) ((starts (when-yes _ _ _ _ _ _ (eq-eqb _ _ (c .before .before .before .before .before .before .before .before .before .before .before .before .if1 .taken)))) (c .before .before .before .before .before .before .before .before .before .write-needed .ensures .0 0 names.centre lists)))) (c .before .before .write-lists .ensures)
 
 slice-aggregate-write-run-3 : tie.Need-slice-aggregate-write-run-3
 slice-aggregate-write-run-3 c = search needs
 
 write-run-requires-3 : tie.Need-write-run-requires-3
 unfolding run signOf widthOf
-write-run-requires-3 c κs = (placed-on (c .before .before .before .before .before .before .before .before .before .before .before .before .before .before .before .before .before .before .before .before .before .pre) (go-on (done (c .before .before .before .before .before .before .before .before .before .before .before .before .cell .given .1) (c .before .before .before .before .before .before .before .before .before .before .before .before .before .before .before .before .write-run .ensures .0 0 cell (λ v. u "last_occurrence" 1 (middle v)))) (done (c .before .before .before .before .flag .given .1) (c .before .before .before .before .before .before .before .before .write-run2 .ensures .0 0 last ((λ _. middle (c .before .before .before .before .before .before .before .before .before .before .before .before .cell .given .0 .1 .1 .0)))))), tt)
+write-run-requires-3 c κs = (placed-on (c .before .before .before .before .before .before .before .before .before .before .before .before .before .before .before .before .before .before .before .before .before .pre) (go-on (done (c .before .before .before .before .before .before .before .before .before .before .before .before .cell .given .1) (c .before .before .before .before .before .before .before .before .before .before .before .before .before .before .before .before .write-run .ensures .0 0 names.cell (λ v. u "last_occurrence" 1 (middle v)))) (done (c .before .before .before .before .flag .given .1) (c .before .before .before .before .before .before .before .before .write-run2 .ensures .0 0 names.last ((λ _. middle (c .before .before .before .before .before .before .before .before .before .before .before .before .cell .given .0 .1 .1 .0)))))), tt)
 
 enum-known-none : tie.Need-enum-known-none
 enum-known-none c = search needs
@@ -118,19 +106,19 @@ same-length-5 c = search needs
 
 returns-5 : tie.Need-returns-5
 unfolding fragment run signOf widthOf
-returns-5 c = then (go-on (done (c .before .before .before .before .before .before .before .before .before .before .before .before .before .before .before .before .before .cell .given .1) (c .before .before .before .before .before .before .before .before .before .before .before .before .before .before .before .before .before .before .before .before .before .write-run .ensures .0 0 cell (λ v. u "last_occurrence" 1 (middle v)))) (done (c .before .before .before .before .before .before .before .before .before .flag .given .1) (c .before .before .before .before .before .before .before .before .before .before .before .before .before .write-run2 .ensures .0 0 last ((λ _. middle (c .before .before .before .before .before .before .before .before .before .before .before .before .before .before .before .before .before .cell .given .0 .1 .1 .0)))))) ((starts (when-no _ _ _ _ _ _ (ne-eqb _ _ (c .before .before .before .before .before .before .before .if1 .left)))) (stops (c .enum-told4 .given .1) (c .before .before .before .before .write-run3 .ensures .0 0 without lists)))
+returns-5 c = then (go-on (done (c .before .before .before .before .before .before .before .before .before .before .before .before .before .before .before .before .before .cell .given .1) (c .before .before .before .before .before .before .before .before .before .before .before .before .before .before .before .before .before .before .before .before .before .write-run .ensures .0 0 names.cell (λ v. u "last_occurrence" 1 (middle v)))) (done (c .before .before .before .before .before .before .before .before .before .flag .given .1) (c .before .before .before .before .before .before .before .before .before .before .before .before .before .write-run2 .ensures .0 0 names.last ((λ _. middle (c .before .before .before .before .before .before .before .before .before .before .before .before .before .before .before .before .before .cell .given .0 .1 .1 .0)))))) ((starts (when-no _ _ _ _ _ _ (ne-eqb _ _ (c .before .before .before .before .before .before .before .if1 .left)))) (stops (c .enum-told4 .given .1) (c .before .before .before .before .write-run3 .ensures .0 0 names.no-centre lists)))
 
 write-lists-requires-2 : tie.Need-write-lists-requires-2
 unfolding run signOf widthOf
-write-lists-requires-2 c κs = (placed-on (c .before .before .before .before .before .before .before .before .before .before .before .before .before .before .before .before .before .before .before .before .before .before .before .before .before .before .before .before .pre) (go-on (go-on (done (c .before .before .before .before .before .before .before .before .before .before .before .before .before .before .before .before .before .before .before .cell .given .1) (c .before .before .before .before .before .before .before .before .before .before .before .before .before .before .before .before .before .before .before .before .before .before .before .write-run .ensures .0 0 cell (λ v. u "last_occurrence" 1 (middle v)))) (done (c .before .before .before .before .before .before .before .before .before .before .before .flag .given .1) (c .before .before .before .before .before .before .before .before .before .before .before .before .before .before .before .write-run2 .ensures .0 0 last ((λ _. middle (c .before .before .before .before .before .before .before .before .before .before .before .before .before .before .before .before .before .before .before .cell .given .0 .1 .1 .0)))))) (done (c .before .before .none .given .1) ((starts (when-no _ _ _ _ _ _ (ne-eqb _ _ (c .before .before .before .before .before .before .before .before .before .if1 .left)))) (c .before .before .before .before .before .before .write-run3 .ensures .0 0 without lists)))), omega (arith, last-of (c .before .before .none .given .1) (c .before .before .before .before .before .before .write-run3 .ensures .1 .0)))
+write-lists-requires-2 c κs = (placed-on (c .before .before .before .before .before .before .before .before .before .before .before .before .before .before .before .before .before .before .before .before .before .before .before .before .before .before .before .before .pre) (go-on (go-on (done (c .before .before .before .before .before .before .before .before .before .before .before .before .before .before .before .before .before .before .before .cell .given .1) (c .before .before .before .before .before .before .before .before .before .before .before .before .before .before .before .before .before .before .before .before .before .before .before .write-run .ensures .0 0 names.cell (λ v. u "last_occurrence" 1 (middle v)))) (done (c .before .before .before .before .before .before .before .before .before .before .before .flag .given .1) (c .before .before .before .before .before .before .before .before .before .before .before .before .before .before .before .write-run2 .ensures .0 0 names.last ((λ _. middle (c .before .before .before .before .before .before .before .before .before .before .before .before .before .before .before .before .before .before .before .cell .given .0 .1 .1 .0)))))) (done (c .before .before .none .given .1) ((starts (when-no _ _ _ _ _ _ (ne-eqb _ _ (c .before .before .before .before .before .before .before .before .before .if1 .left)))) (c .before .before .before .before .before .before .write-run3 .ensures .0 0 names.no-centre lists)))), omega (arith, last-of (c .before .before .none .given .1) (c .before .before .before .before .before .before .write-run3 .ensures .1 .0)))
 
 same-length-6 : tie.Need-same-length-6
 unfolding run signOf widthOf
-same-length-6 c = omega (arith, (go-on (go-on (done (c .before .before .before .before .before .before .before .before .before .before .before .before .before .before .before .before .before .before .before .before .before .before .cell .given .1) (c .before .before .before .before .before .before .before .before .before .before .before .before .before .before .before .before .before .before .before .before .before .before .before .before .before .before .write-run .ensures .0 0 cell (λ v. u "last_occurrence" 1 (middle v)))) (done (c .before .before .before .before .before .before .before .before .before .before .before .before .before .before .flag .given .1) (c .before .before .before .before .before .before .before .before .before .before .before .before .before .before .before .before .before .before .write-run2 .ensures .0 0 last ((λ _. middle (c .before .before .before .before .before .before .before .before .before .before .before .before .before .before .before .before .before .before .before .before .before .before .cell .given .0 .1 .1 .0)))))) (done (c .before .before .before .before .before .none .given .1) ((starts (when-no _ _ _ _ _ _ (ne-eqb _ _ (c .before .before .before .before .before .before .before .before .before .before .before .before .if1 .left)))) (c .before .before .before .before .before .before .before .before .before .write-run3 .ensures .0 0 without lists)))) .long)
+same-length-6 c = omega (arith, (go-on (go-on (done (c .before .before .before .before .before .before .before .before .before .before .before .before .before .before .before .before .before .before .before .before .before .before .cell .given .1) (c .before .before .before .before .before .before .before .before .before .before .before .before .before .before .before .before .before .before .before .before .before .before .before .before .before .before .write-run .ensures .0 0 names.cell (λ v. u "last_occurrence" 1 (middle v)))) (done (c .before .before .before .before .before .before .before .before .before .before .before .before .before .before .flag .given .1) (c .before .before .before .before .before .before .before .before .before .before .before .before .before .before .before .before .before .before .write-run2 .ensures .0 0 names.last ((λ _. middle (c .before .before .before .before .before .before .before .before .before .before .before .before .before .before .before .before .before .before .before .before .before .before .cell .given .0 .1 .1 .0)))))) (done (c .before .before .before .before .before .none .given .1) ((starts (when-no _ _ _ _ _ _ (ne-eqb _ _ (c .before .before .before .before .before .before .before .before .before .before .before .before .if1 .left)))) (c .before .before .before .before .before .before .before .before .before .write-run3 .ensures .0 0 names.no-centre lists)))) .long)
 
 returns-6 : tie.Need-returns-6
 unfolding fragment run signOf widthOf
-returns-6 c = then (go-on (go-on (done (c .before .before .before .before .before .before .before .before .before .before .before .before .before .before .before .before .before .before .before .before .before .before .cell .given .1) (c .before .before .before .before .before .before .before .before .before .before .before .before .before .before .before .before .before .before .before .before .before .before .before .before .before .before .write-run .ensures .0 0 cell (λ v. u "last_occurrence" 1 (middle v)))) (done (c .before .before .before .before .before .before .before .before .before .before .before .before .before .before .flag .given .1) (c .before .before .before .before .before .before .before .before .before .before .before .before .before .before .before .before .before .before .write-run2 .ensures .0 0 last ((λ _. middle (c .before .before .before .before .before .before .before .before .before .before .before .before .before .before .before .before .before .before .before .before .before .before .cell .given .0 .1 .1 .0)))))) (done (c .before .before .before .before .before .none .given .1) ((starts (when-no _ _ _ _ _ _ (ne-eqb _ _ (c .before .before .before .before .before .before .before .before .before .before .before .before .if1 .left)))) (c .before .before .before .before .before .before .before .before .before .write-run3 .ensures .0 0 without lists)))) (c .before .before .write-lists2 .ensures)
+returns-6 c = then (go-on (go-on (done (c .before .before .before .before .before .before .before .before .before .before .before .before .before .before .before .before .before .before .before .before .before .before .cell .given .1) (c .before .before .before .before .before .before .before .before .before .before .before .before .before .before .before .before .before .before .before .before .before .before .before .before .before .before .write-run .ensures .0 0 names.cell (λ v. u "last_occurrence" 1 (middle v)))) (done (c .before .before .before .before .before .before .before .before .before .before .before .before .before .before .flag .given .1) (c .before .before .before .before .before .before .before .before .before .before .before .before .before .before .before .before .before .before .write-run2 .ensures .0 0 names.last ((λ _. middle (c .before .before .before .before .before .before .before .before .before .before .before .before .before .before .before .before .before .before .before .before .before .before .cell .given .0 .1 .1 .0)))))) (done (c .before .before .before .before .before .none .given .1) ((starts (when-no _ _ _ _ _ _ (ne-eqb _ _ (c .before .before .before .before .before .before .before .before .before .before .before .before .if1 .left)))) (c .before .before .before .before .before .before .before .before .before .write-run3 .ensures .0 0 names.no-centre lists)))) (c .before .before .write-lists2 .ensures)
 
 pub write-fragment-spec : {M : Type 1} → statement M
 write-fragment-spec =

@@ -1,12 +1,12 @@
 -- `write_lists` meets its contract: three lists, one behind the other.
 -- Assumes nothing.
 use Prim.Native.Nat.{ℕ, _*_}
-use mathlib.Core.List.{List, [], _∷_}
 use native.Mathlib.Omega.{arith}
 use borrow.Author.Needs.{needs}
-use Rattle.format.specs.Syntax.{Name, Syntax, need, end}
+use Rattle.format.specs.Syntax.{Syntax, need, end}
 use Rattle.format.specs.Tables.{times, system, new, obsolescent}
 use Rattle.runs.specs.Lines.{run, signOf, widthOf}
+use Rattle.runs.proofs.Names as names
 use Rattle.write_runs.proofs.WentLaws.{done, stops, then, go-on}
 use Rattle.write_runs.proofs.Runs.{placed-on, last-of}
 use Rattle.write_tables.proofs.write_lists.Statement.{statement}
@@ -17,21 +17,6 @@ news n = need 7 (n * 80) (times n (system "new_delivery_system_id" "time_of_appl
 
 abbrev olds : ℕ → Syntax
 olds n = need 8 (n * 80) (times n (system "obsolescent_delivery_system_id" "time_of_obsolescence") end)
-
-abbrev id : List Name
-id = "delivery_system_id" ∷ []
-
-abbrev new-count : List Name
-new-count = "reserved_zero_future_use_new" ∷ "new_delivery_system_count" ∷ []
-
-abbrev new-system : List Name
-new-system = "new_delivery_system_id" ∷ "time_of_application_base" ∷ "time_of_application_reserved_zero_future_use" ∷ "time_of_application_ext" ∷ []
-
-abbrev old-count : List Name
-old-count = "reserved_zero_future_use_obsolescent" ∷ "obsolescent_delivery_system_count" ∷ []
-
-abbrev old-system : List Name
-old-system = "obsolescent_delivery_system_id" ∷ "time_of_obsolescence_base" ∷ "time_of_obsolescence_reserved_zero_future_use" ∷ "time_of_obsolescence_ext" ∷ []
 
 slice-aggregate-write-counted : tie.Need-slice-aggregate-write-counted
 slice-aggregate-write-counted c = search needs
@@ -50,13 +35,13 @@ same-length c = search needs
 
 returns : tie.Need-returns
 unfolding run signOf widthOf
-returns c = stops (c .enum-told .given .1) (c .before .before .before .before .write-counted .ensures 0 id new)
+returns c = stops (c .enum-told .given .1) (c .before .before .before .before .write-counted .ensures 0 names.delivery new)
 
 slice-aggregate-write-run : tie.Need-slice-aggregate-write-run
 slice-aggregate-write-run c = search needs
 
 write-run-requires : tie.Need-write-run-requires
-write-run-requires c κs = (placed-on (c .before .before .before .before .before .before .before .before .before .before .before .before .pre .0) (done (c .before .before .before .ids .given .1) (c .before .before .before .before .before .before .before .write-counted .ensures 0 id new)), tt)
+write-run-requires c κs = (placed-on (c .before .before .before .before .before .before .before .before .before .before .before .before .pre .0) (done (c .before .before .before .ids .given .1) (c .before .before .before .before .before .before .before .write-counted .ensures 0 names.delivery new)), tt)
 
 enum-known-new : tie.Need-enum-known-new
 enum-known-new c = search needs
@@ -69,14 +54,14 @@ same-length-2 c = search needs
 
 returns-2 : tie.Need-returns-2
 unfolding run signOf widthOf
-returns-2 c = then (done (c .before .before .before .before .before .before .before .before .ids .given .1) (c .before .before .before .before .before .before .before .before .before .before .before .before .write-counted .ensures 0 id new)) (stops (c .enum-told2 .given .1) (c .before .before .before .before .write-run .ensures .0 0 new-count news))
+returns-2 c = then (done (c .before .before .before .before .before .before .before .before .ids .given .1) (c .before .before .before .before .before .before .before .before .before .before .before .before .write-counted .ensures 0 names.delivery new)) (stops (c .enum-told2 .given .1) (c .before .before .before .before .write-run .ensures .0 0 names.new-count news))
 
 slice-aggregate-write-counted-2 : tie.Need-slice-aggregate-write-counted-2
 slice-aggregate-write-counted-2 c = search needs
 
 write-counted-requires-2 : tie.Need-write-counted-requires-2
 unfolding run signOf widthOf
-write-counted-requires-2 c κs = (placed-on (c .before .before .before .before .before .before .before .before .before .before .before .before .before .before .before .before .before .before .before .before .pre .0) (go-on (done (c .before .before .before .before .before .before .before .before .before .before .before .ids .given .1) (c .before .before .before .before .before .before .before .before .before .before .before .before .before .before .before .write-counted .ensures 0 id new)) (done (c .before .before .before .new .given .1) (c .before .before .before .before .before .before .before .write-run .ensures .0 0 new-count news))), (tt, omega (arith, last-of (c .before .before .before .new .given .1) (c .before .before .before .before .before .before .before .write-run .ensures .1 .0))))
+write-counted-requires-2 c κs = (placed-on (c .before .before .before .before .before .before .before .before .before .before .before .before .before .before .before .before .before .before .before .before .pre .0) (go-on (done (c .before .before .before .before .before .before .before .before .before .before .before .ids .given .1) (c .before .before .before .before .before .before .before .before .before .before .before .before .before .before .before .write-counted .ensures 0 names.delivery new)) (done (c .before .before .before .new .given .1) (c .before .before .before .before .before .before .before .write-run .ensures .0 0 names.new-count news))), (tt, omega (arith, last-of (c .before .before .before .new .given .1) (c .before .before .before .before .before .before .before .write-run .ensures .1 .0))))
 
 enum-known-systems : tie.Need-enum-known-systems
 enum-known-systems c = search needs
@@ -89,14 +74,14 @@ same-length-3 c = search needs
 
 returns-3 : tie.Need-returns-3
 unfolding run signOf widthOf
-returns-3 c = then (go-on (done (c .before .before .before .before .before .before .before .before .before .before .before .before .before .before .before .before .ids .given .1) (c .before .before .before .before .before .before .before .before .before .before .before .before .before .before .before .before .before .before .before .before .write-counted .ensures 0 id new)) (done (c .before .before .before .before .before .before .before .before .new .given .1) (c .before .before .before .before .before .before .before .before .before .before .before .before .write-run .ensures .0 0 new-count news))) (stops (c .enum-told3 .given .1) (c .before .before .before .before .write-counted2 .ensures 0 new-system obsolescent))
+returns-3 c = then (go-on (done (c .before .before .before .before .before .before .before .before .before .before .before .before .before .before .before .before .ids .given .1) (c .before .before .before .before .before .before .before .before .before .before .before .before .before .before .before .before .before .before .before .before .write-counted .ensures 0 names.delivery new)) (done (c .before .before .before .before .before .before .before .before .new .given .1) (c .before .before .before .before .before .before .before .before .before .before .before .before .write-run .ensures .0 0 names.new-count news))) (stops (c .enum-told3 .given .1) (c .before .before .before .before .write-counted2 .ensures 0 names.new-system obsolescent))
 
 slice-aggregate-write-run-2 : tie.Need-slice-aggregate-write-run-2
 slice-aggregate-write-run-2 c = search needs
 
 write-run-requires-2 : tie.Need-write-run-requires-2
 unfolding run signOf widthOf
-write-run-requires-2 c κs = (placed-on (c .before .before .before .before .before .before .before .before .before .before .before .before .before .before .before .before .before .before .before .before .before .before .before .before .before .before .before .before .pre .0) (go-on (go-on (done (c .before .before .before .before .before .before .before .before .before .before .before .before .before .before .before .before .before .before .before .ids .given .1) (c .before .before .before .before .before .before .before .before .before .before .before .before .before .before .before .before .before .before .before .before .before .before .before .write-counted .ensures 0 id new)) (done (c .before .before .before .before .before .before .before .before .before .before .before .new .given .1) (c .before .before .before .before .before .before .before .before .before .before .before .before .before .before .before .write-run .ensures .0 0 new-count news))) (done (c .before .before .before .systems .given .1) (c .before .before .before .before .before .before .before .write-counted2 .ensures 0 new-system obsolescent))), tt)
+write-run-requires-2 c κs = (placed-on (c .before .before .before .before .before .before .before .before .before .before .before .before .before .before .before .before .before .before .before .before .before .before .before .before .before .before .before .before .pre .0) (go-on (go-on (done (c .before .before .before .before .before .before .before .before .before .before .before .before .before .before .before .before .before .before .before .ids .given .1) (c .before .before .before .before .before .before .before .before .before .before .before .before .before .before .before .before .before .before .before .before .before .before .before .write-counted .ensures 0 names.delivery new)) (done (c .before .before .before .before .before .before .before .before .before .before .before .new .given .1) (c .before .before .before .before .before .before .before .before .before .before .before .before .before .before .before .write-run .ensures .0 0 names.new-count news))) (done (c .before .before .before .systems .given .1) (c .before .before .before .before .before .before .before .write-counted2 .ensures 0 names.new-system obsolescent))), tt)
 
 enum-known-old : tie.Need-enum-known-old
 enum-known-old c = search needs
@@ -106,26 +91,26 @@ enum-told-4 c = search needs
 
 same-length-4 : tie.Need-same-length-4
 unfolding run signOf widthOf
-same-length-4 c = omega (arith, (go-on (go-on (done (c .before .before .before .before .before .before .before .before .before .before .before .before .before .before .before .before .before .before .before .before .before .before .before .before .ids .given .1) (c .before .before .before .before .before .before .before .before .before .before .before .before .before .before .before .before .before .before .before .before .before .before .before .before .before .before .before .before .write-counted .ensures 0 id new)) (done (c .before .before .before .before .before .before .before .before .before .before .before .before .before .before .before .before .new .given .1) (c .before .before .before .before .before .before .before .before .before .before .before .before .before .before .before .before .before .before .before .before .write-run .ensures .0 0 new-count news))) (done (c .before .before .before .before .before .before .before .before .systems .given .1) (c .before .before .before .before .before .before .before .before .before .before .before .before .write-counted2 .ensures 0 new-system obsolescent))) .long)
+same-length-4 c = omega (arith, (go-on (go-on (done (c .before .before .before .before .before .before .before .before .before .before .before .before .before .before .before .before .before .before .before .before .before .before .before .before .ids .given .1) (c .before .before .before .before .before .before .before .before .before .before .before .before .before .before .before .before .before .before .before .before .before .before .before .before .before .before .before .before .write-counted .ensures 0 names.delivery new)) (done (c .before .before .before .before .before .before .before .before .before .before .before .before .before .before .before .before .new .given .1) (c .before .before .before .before .before .before .before .before .before .before .before .before .before .before .before .before .before .before .before .before .write-run .ensures .0 0 names.new-count news))) (done (c .before .before .before .before .before .before .before .before .systems .given .1) (c .before .before .before .before .before .before .before .before .before .before .before .before .write-counted2 .ensures 0 names.new-system obsolescent))) .long)
 
 returns-4 : tie.Need-returns-4
 unfolding run signOf widthOf
-returns-4 c = then (go-on (go-on (done (c .before .before .before .before .before .before .before .before .before .before .before .before .before .before .before .before .before .before .before .before .before .before .before .before .ids .given .1) (c .before .before .before .before .before .before .before .before .before .before .before .before .before .before .before .before .before .before .before .before .before .before .before .before .before .before .before .before .write-counted .ensures 0 id new)) (done (c .before .before .before .before .before .before .before .before .before .before .before .before .before .before .before .before .new .given .1) (c .before .before .before .before .before .before .before .before .before .before .before .before .before .before .before .before .before .before .before .before .write-run .ensures .0 0 new-count news))) (done (c .before .before .before .before .before .before .before .before .systems .given .1) (c .before .before .before .before .before .before .before .before .before .before .before .before .write-counted2 .ensures 0 new-system obsolescent))) (stops (c .enum-told4 .given .1) (c .before .before .before .before .write-run2 .ensures .0 0 old-count olds))
+returns-4 c = then (go-on (go-on (done (c .before .before .before .before .before .before .before .before .before .before .before .before .before .before .before .before .before .before .before .before .before .before .before .before .ids .given .1) (c .before .before .before .before .before .before .before .before .before .before .before .before .before .before .before .before .before .before .before .before .before .before .before .before .before .before .before .before .write-counted .ensures 0 names.delivery new)) (done (c .before .before .before .before .before .before .before .before .before .before .before .before .before .before .before .before .new .given .1) (c .before .before .before .before .before .before .before .before .before .before .before .before .before .before .before .before .before .before .before .before .write-run .ensures .0 0 names.new-count news))) (done (c .before .before .before .before .before .before .before .before .systems .given .1) (c .before .before .before .before .before .before .before .before .before .before .before .before .write-counted2 .ensures 0 names.new-system obsolescent))) (stops (c .enum-told4 .given .1) (c .before .before .before .before .write-run2 .ensures .0 0 names.old-count olds))
 
 slice-aggregate-write-counted-3 : tie.Need-slice-aggregate-write-counted-3
 slice-aggregate-write-counted-3 c = search needs
 
 write-counted-requires-3 : tie.Need-write-counted-requires-3
 unfolding run signOf widthOf
-write-counted-requires-3 c κs = (placed-on (c .before .before .before .before .before .before .before .before .before .before .before .before .before .before .before .before .before .before .before .before .before .before .before .before .before .before .before .before .before .before .before .before .before .before .before .before .pre .0) (go-on (go-on (go-on (done (c .before .before .before .before .before .before .before .before .before .before .before .before .before .before .before .before .before .before .before .before .before .before .before .before .before .before .before .ids .given .1) (c .before .before .before .before .before .before .before .before .before .before .before .before .before .before .before .before .before .before .before .before .before .before .before .before .before .before .before .before .before .before .before .write-counted .ensures 0 id new)) (done (c .before .before .before .before .before .before .before .before .before .before .before .before .before .before .before .before .before .before .before .new .given .1) (c .before .before .before .before .before .before .before .before .before .before .before .before .before .before .before .before .before .before .before .before .before .before .before .write-run .ensures .0 0 new-count news))) (done (c .before .before .before .before .before .before .before .before .before .before .before .systems .given .1) (c .before .before .before .before .before .before .before .before .before .before .before .before .before .before .before .write-counted2 .ensures 0 new-system obsolescent))) (done (c .before .before .before .old .given .1) (c .before .before .before .before .before .before .before .write-run2 .ensures .0 0 old-count olds))), (tt, omega (arith, last-of (c .before .before .before .old .given .1) (c .before .before .before .before .before .before .before .write-run2 .ensures .1 .0))))
+write-counted-requires-3 c κs = (placed-on (c .before .before .before .before .before .before .before .before .before .before .before .before .before .before .before .before .before .before .before .before .before .before .before .before .before .before .before .before .before .before .before .before .before .before .before .before .pre .0) (go-on (go-on (go-on (done (c .before .before .before .before .before .before .before .before .before .before .before .before .before .before .before .before .before .before .before .before .before .before .before .before .before .before .before .ids .given .1) (c .before .before .before .before .before .before .before .before .before .before .before .before .before .before .before .before .before .before .before .before .before .before .before .before .before .before .before .before .before .before .before .write-counted .ensures 0 names.delivery new)) (done (c .before .before .before .before .before .before .before .before .before .before .before .before .before .before .before .before .before .before .before .new .given .1) (c .before .before .before .before .before .before .before .before .before .before .before .before .before .before .before .before .before .before .before .before .before .before .before .write-run .ensures .0 0 names.new-count news))) (done (c .before .before .before .before .before .before .before .before .before .before .before .systems .given .1) (c .before .before .before .before .before .before .before .before .before .before .before .before .before .before .before .write-counted2 .ensures 0 names.new-system obsolescent))) (done (c .before .before .before .old .given .1) (c .before .before .before .before .before .before .before .write-run2 .ensures .0 0 names.old-count olds))), (tt, omega (arith, last-of (c .before .before .before .old .given .1) (c .before .before .before .before .before .before .before .write-run2 .ensures .1 .0))))
 
 same-length-5 : tie.Need-same-length-5
 unfolding run signOf widthOf
-same-length-5 c = omega (arith, (go-on (go-on (go-on (done (c .before .before .before .before .before .before .before .before .before .before .before .before .before .before .before .before .before .before .before .before .before .before .before .before .before .before .before .before .before .before .ids .given .1) (c .before .before .before .before .before .before .before .before .before .before .before .before .before .before .before .before .before .before .before .before .before .before .before .before .before .before .before .before .before .before .before .before .before .before .write-counted .ensures 0 id new)) (done (c .before .before .before .before .before .before .before .before .before .before .before .before .before .before .before .before .before .before .before .before .before .before .new .given .1) (c .before .before .before .before .before .before .before .before .before .before .before .before .before .before .before .before .before .before .before .before .before .before .before .before .before .before .write-run .ensures .0 0 new-count news))) (done (c .before .before .before .before .before .before .before .before .before .before .before .before .before .before .systems .given .1) (c .before .before .before .before .before .before .before .before .before .before .before .before .before .before .before .before .before .before .write-counted2 .ensures 0 new-system obsolescent))) (done (c .before .before .before .before .before .before .old .given .1) (c .before .before .before .before .before .before .before .before .before .before .write-run2 .ensures .0 0 old-count olds))) .long)
+same-length-5 c = omega (arith, (go-on (go-on (go-on (done (c .before .before .before .before .before .before .before .before .before .before .before .before .before .before .before .before .before .before .before .before .before .before .before .before .before .before .before .before .before .before .ids .given .1) (c .before .before .before .before .before .before .before .before .before .before .before .before .before .before .before .before .before .before .before .before .before .before .before .before .before .before .before .before .before .before .before .before .before .before .write-counted .ensures 0 names.delivery new)) (done (c .before .before .before .before .before .before .before .before .before .before .before .before .before .before .before .before .before .before .before .before .before .before .new .given .1) (c .before .before .before .before .before .before .before .before .before .before .before .before .before .before .before .before .before .before .before .before .before .before .before .before .before .before .write-run .ensures .0 0 names.new-count news))) (done (c .before .before .before .before .before .before .before .before .before .before .before .before .before .before .systems .given .1) (c .before .before .before .before .before .before .before .before .before .before .before .before .before .before .before .before .before .before .write-counted2 .ensures 0 names.new-system obsolescent))) (done (c .before .before .before .before .before .before .old .given .1) (c .before .before .before .before .before .before .before .before .before .before .write-run2 .ensures .0 0 names.old-count olds))) .long)
 
 returns-5 : tie.Need-returns-5
 unfolding run signOf widthOf
-returns-5 c = then (go-on (go-on (go-on (done (c .before .before .before .before .before .before .before .before .before .before .before .before .before .before .before .before .before .before .before .before .before .before .before .before .before .before .before .before .before .before .ids .given .1) (c .before .before .before .before .before .before .before .before .before .before .before .before .before .before .before .before .before .before .before .before .before .before .before .before .before .before .before .before .before .before .before .before .before .before .write-counted .ensures 0 id new)) (done (c .before .before .before .before .before .before .before .before .before .before .before .before .before .before .before .before .before .before .before .before .before .before .new .given .1) (c .before .before .before .before .before .before .before .before .before .before .before .before .before .before .before .before .before .before .before .before .before .before .before .before .before .before .write-run .ensures .0 0 new-count news))) (done (c .before .before .before .before .before .before .before .before .before .before .before .before .before .before .systems .given .1) (c .before .before .before .before .before .before .before .before .before .before .before .before .before .before .before .before .before .before .write-counted2 .ensures 0 new-system obsolescent))) (done (c .before .before .before .before .before .before .old .given .1) (c .before .before .before .before .before .before .before .before .before .before .write-run2 .ensures .0 0 old-count olds))) (c .before .before .write-counted3 .ensures 0 old-system end)
+returns-5 c = then (go-on (go-on (go-on (done (c .before .before .before .before .before .before .before .before .before .before .before .before .before .before .before .before .before .before .before .before .before .before .before .before .before .before .before .before .before .before .ids .given .1) (c .before .before .before .before .before .before .before .before .before .before .before .before .before .before .before .before .before .before .before .before .before .before .before .before .before .before .before .before .before .before .before .before .before .before .write-counted .ensures 0 names.delivery new)) (done (c .before .before .before .before .before .before .before .before .before .before .before .before .before .before .before .before .before .before .before .before .before .before .new .given .1) (c .before .before .before .before .before .before .before .before .before .before .before .before .before .before .before .before .before .before .before .before .before .before .before .before .before .before .write-run .ensures .0 0 names.new-count news))) (done (c .before .before .before .before .before .before .before .before .before .before .before .before .before .before .systems .given .1) (c .before .before .before .before .before .before .before .before .before .before .before .before .before .before .before .before .before .before .write-counted2 .ensures 0 names.new-system obsolescent))) (done (c .before .before .before .before .before .before .old .given .1) (c .before .before .before .before .before .before .before .before .before .before .write-run2 .ensures .0 0 names.old-count olds))) (c .before .before .write-counted3 .ensures 0 names.old-system end)
 
 pub write-lists-spec : {M : Type 1} → statement M
 write-lists-spec =

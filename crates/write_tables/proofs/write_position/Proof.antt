@@ -1,13 +1,13 @@
 -- `write_position` meets its contract: the runs of id 0, by the position system.
 -- Assumes nothing.
 use Prim.Native.Nat.{ℕ}
-use mathlib.Core.List.{List, [], _∷_}
 use borrow.Author.Needs.{needs}
 use borrow.Author.Tests.{eq-eqb, ne-eqb}
 use lib.Dec.{eqb}
-use Rattle.format.specs.Syntax.{Name, Syntax, when, end}
+use Rattle.format.specs.Syntax.{Syntax, when, end}
 use Rattle.format.specs.Tables.{position, orbital, elements}
 use Rattle.runs.specs.Lines.{run, signOf, widthOf}
+use Rattle.runs.proofs.Names as names
 use Rattle.write_runs.proofs.WentLaws.{done, stops, starts, then, when-yes, when-no}
 use Rattle.write_runs.proofs.Runs.{placed-on}
 use Rattle.write_tables.proofs.write_position.Statement.{statement}
@@ -15,15 +15,6 @@ use Rattle.write_tables.proofs.write_position.Tie as tie
 
 abbrev rest : ℕ → Syntax
 rest v = when (eqb v 0) orbital elements
-
-abbrev head : List Name
-head = "satellite_id" ∷ "reserved_zero_future_use" ∷ "position_system" ∷ []
-
-abbrev place : List Name
-place = "orbital_position" ∷ "west_east_flag" ∷ "position.reserved_zero_future_use" ∷ []
-
-abbrev set : List Name
-set = "epoch_year" ∷ "day_of_the_year" ∷ "day_fraction" ∷ "mean_motion_first_derivative" ∷ "mean_motion_second_derivative" ∷ "drag_term" ∷ "inclination" ∷ "right_ascension" ∷ "eccentricity" ∷ "argument_of_perigree" ∷ "mean_anomaly" ∷ "mean_motion" ∷ []
 
 slice-aggregate-write-run : tie.Need-slice-aggregate-write-run
 slice-aggregate-write-run c = search needs
@@ -42,33 +33,33 @@ same-length c = search needs
 
 returns : tie.Need-returns
 unfolding position run signOf widthOf
-returns c = stops (c .enum-told .given .1) (c .before .before .before .before .write-run .ensures .0 0 head rest)
+returns c = stops (c .enum-told .given .1) (c .before .before .before .before .write-run .ensures .0 0 names.satellite rest)
 
 slice-aggregate-write-needed : tie.Need-slice-aggregate-write-needed
 slice-aggregate-write-needed c = search needs
 
 write-needed-requires : tie.Need-write-needed-requires
-write-needed-requires c κs = (placed-on (c .before .before .before .before .before .before .before .before .before .before .before .before .before .pre) (done (c .before .before .before .before .head .given .1) (c .before .before .before .before .before .before .before .before .write-run .ensures .0 0 head rest)), tt)
+write-needed-requires c κs = (placed-on (c .before .before .before .before .before .before .before .before .before .before .before .before .before .pre) (done (c .before .before .before .before .head .given .1) (c .before .before .before .before .before .before .before .before .write-run .ensures .0 0 names.satellite rest)), tt)
 
 same-length-2 : tie.Need-same-length-2
 same-length-2 c = search needs
 
 returns-2 : tie.Need-returns-2
 unfolding position run signOf widthOf
-returns-2 c = then (done (c .before .before .before .before .before .before .before .head .given .1) (c .before .before .before .before .before .before .before .before .before .before .before .write-run .ensures .0 0 head rest)) (starts (when-yes _ _ _ _ _ _ (eq-eqb _ _ (c .before .before .before .before .before .if1 .taken))) (c .before .before .write-needed .ensures .0 0 place (λ _. end)))
+returns-2 c = then (done (c .before .before .before .before .before .before .before .head .given .1) (c .before .before .before .before .before .before .before .before .before .before .before .write-run .ensures .0 0 names.satellite rest)) (starts (when-yes _ _ _ _ _ _ (eq-eqb _ _ (c .before .before .before .before .before .if1 .taken))) (c .before .before .write-needed .ensures .0 0 names.orbital (λ _. end)))
 
 slice-aggregate-write-needed-2 : tie.Need-slice-aggregate-write-needed-2
 slice-aggregate-write-needed-2 c = search needs
 
 write-needed-requires-2 : tie.Need-write-needed-requires-2
-write-needed-requires-2 c κs = (placed-on (c .before .before .before .before .before .before .before .before .before .before .before .before .before .pre) (done (c .before .before .before .before .head .given .1) (c .before .before .before .before .before .before .before .before .write-run .ensures .0 0 head rest)), tt)
+write-needed-requires-2 c κs = (placed-on (c .before .before .before .before .before .before .before .before .before .before .before .before .before .pre) (done (c .before .before .before .before .head .given .1) (c .before .before .before .before .before .before .before .before .write-run .ensures .0 0 names.satellite rest)), tt)
 
 same-length-3 : tie.Need-same-length-3
 same-length-3 c = search needs
 
 returns-3 : tie.Need-returns-3
 unfolding position run signOf widthOf
-returns-3 c = then (done (c .before .before .before .before .before .before .before .head .given .1) (c .before .before .before .before .before .before .before .before .before .before .before .write-run .ensures .0 0 head rest)) (starts (when-no _ _ _ _ _ _ (ne-eqb _ _ (c .before .before .before .before .before .if1 .left))) (c .before .before .write-needed2 .ensures .0 0 set (λ _. end)))
+returns-3 c = then (done (c .before .before .before .before .before .before .before .head .given .1) (c .before .before .before .before .before .before .before .before .before .before .before .write-run .ensures .0 0 names.satellite rest)) (starts (when-no _ _ _ _ _ _ (ne-eqb _ _ (c .before .before .before .before .before .if1 .left))) (c .before .before .write-needed2 .ensures .0 0 names.elements (λ _. end)))
 
 pub write-position-spec : {M : Type 1} → statement M
 write-position-spec =

@@ -3,22 +3,19 @@ ghost use Prim.Native.Nat.{ℕ};
 ghost use Rattle.format.specs.Syntax.{Name, Syntax, end};
 ghost use Rattle.format.specs.Tables.{header, usable, metadata, covariance, ephemerides, position3};
 ghost use Rattle.read_runs.specs.Came.{LedgerPlaced, Laid};
-ghost use Rattle.read_orbits.specs.Flagged.{flagged};
+ghost use Rattle.read_ephemeris.specs.Flagged.{flagged};
 use read_runs::read_counted;
 use read_runs::read_run;
 use runs::Step;
-
-const HEADER: [u8; 6] = [4, 4, 8, 7, 9, 32];
+use runs::marks;
 
 // The header.
 pub fn read_header(ledger: &[u8], place: usize, out: &mut [u8], at: usize) -> Step
     requires { ⌜ LedgerPlaced (now ledger) place at ⌝ }
     ensures { λ r. ⌜ Laid (now (ledger .entry)) header place at (now (out .entry)) (λ _. end) (now (out .exit)) r ⌝ }
 {
-    read_run(ledger, place, &HEADER, out, at)
+    read_run(ledger, place, &marks::HEADER, out, at)
 }
-
-const STAMP: [u8; 4] = [8, 7, 9, 32];
 
 // A usable time, where its flag is set.
 fn read_usable(ledger: &[u8], place: usize, flag: u64, out: &mut [u8], at: usize) -> Step
@@ -26,12 +23,10 @@ fn read_usable(ledger: &[u8], place: usize, flag: u64, out: &mut [u8], at: usize
     ensures { λ r. ⌜ ((number : ℕ) (nm : Name) (s : Syntax) → Laid (now (ledger .entry)) (usable number nm flag s) place at (now (out .entry)) (λ _. s) (now (out .exit)) r) ⌝ }
 {
     if flag == 1 {
-        return read_run(ledger, place, &STAMP, out, at);
+        return read_run(ledger, place, &marks::STAMP, out, at);
     }
     Step::Done { at, place, last: 0 }
 }
-
-const METADATA: [u8; 12] = [8, 7, 9, 32, 8, 7, 9, 32, 1, 1, 3, 3];
 
 // The metadata, with the usable times whose flags are set.
 fn read_metadata(
@@ -45,28 +40,16 @@ fn read_metadata(
     requires { ⌜ LedgerPlaced (now ledger) place at ⌝ }
     ensures { λ r. ⌜ ((s : Syntax) → Laid (now (ledger .entry)) (metadata start stop s) place at (now (out .entry)) (λ _. s) (now (out .exit)) r) ⌝ }
 {
-    let times = read_run(ledger, place, &METADATA, out, at);
-    let Step::Done {
-        at: a1,
-        place: p1,
-        last: _,
-    } = times
-    else {
+    let times = read_run(ledger, place, &marks::METADATA, out, at);
+    let Step::Done { at, place, .. } = times else {
         return times;
     };
-    let first = read_usable(ledger, p1, start, out, a1);
-    let Step::Done {
-        at: a2,
-        place: p2,
-        last: _,
-    } = first
-    else {
+    let first = read_usable(ledger, place, start, out, at);
+    let Step::Done { at, place, .. } = first else {
         return first;
     };
-    read_usable(ledger, p2, stop, out, a2)
+    read_usable(ledger, place, stop, out, at)
 }
-
-const VALUE: [u8; 1] = [32];
 
 // The covariance, where its flag is set: a stamp and 21 values.
 fn read_covariance(ledger: &[u8], place: usize, flag: u64, out: &mut [u8], at: usize) -> Step
@@ -74,25 +57,10 @@ fn read_covariance(ledger: &[u8], place: usize, flag: u64, out: &mut [u8], at: u
     ensures { λ r. ⌜ Laid (now (ledger .entry)) (covariance flag) place at (now (out .entry)) (λ _. end) (now (out .exit)) r ⌝ }
 {
     if flag == 1 {
-        let epoch = read_run(ledger, place, &STAMP, out, at);
-        let Step::Done {
-            at: a,
-            place: p,
-            last: _,
-        } = epoch
-        else {
-            return epoch;
-        };
-        return read_counted(ledger, p, &VALUE, 21, out, a);
+        return read_run(ledger, place, &marks::COVARIANCE, out, at);
     }
     Step::Done { at, place, last: 0 }
 }
-
-const COUNT: [u8; 1] = [16];
-
-const MOTION: [u8; 10] = [8, 7, 9, 32, 32, 32, 32, 32, 32, 32];
-
-const ACCELERATED: [u8; 13] = [8, 7, 9, 32, 32, 32, 32, 32, 32, 32, 32, 32, 32];
 
 // The ephemeris entries, with or without acceleration, and the covariance.
 fn read_ephemerides(
@@ -106,40 +74,28 @@ fn read_ephemerides(
     requires { ⌜ LedgerPlaced (now ledger) place at ⌝ }
     ensures { λ r. ⌜ Laid (now (ledger .entry)) (ephemerides accel cov) place at (now (out .entry)) (λ _. end) (now (out .exit)) r ⌝ }
 {
-    let head = read_run(ledger, place, &COUNT, out, at);
+    let head = read_run(ledger, place, &marks::EPHEMERIS_COUNT, out, at);
     let Step::Done {
-        at: a1,
-        place: p1,
+        at,
+        place,
         last: count,
     } = head
     else {
         return head;
     };
     if accel == 1 {
-        let moved = read_counted(ledger, p1, &ACCELERATED, count, out, a1);
-        let Step::Done {
-            at: a2,
-            place: p2,
-            last: _,
-        } = moved
-        else {
+        let moved = read_counted(ledger, place, &marks::ACCELERATED, count, out, at);
+        let Step::Done { at, place, .. } = moved else {
             return moved;
         };
-        return read_covariance(ledger, p2, cov, out, a2);
+        return read_covariance(ledger, place, cov, out, at);
     }
-    let still = read_counted(ledger, p1, &MOTION, count, out, a1);
-    let Step::Done {
-        at: a2,
-        place: p2,
-        last: _,
-    } = still
-    else {
+    let still = read_counted(ledger, place, &marks::MOTION, count, out, at);
+    let Step::Done { at, place, .. } = still else {
         return still;
     };
-    read_covariance(ledger, p2, cov, out, a2)
+    read_covariance(ledger, place, cov, out, at)
 }
-
-const FLAG: [u8; 1] = [1];
 
 // The last two flags, the metadata if there is one, and the ephemeris entries.
 fn read_flagged(
@@ -154,72 +110,65 @@ fn read_flagged(
     requires { ⌜ LedgerPlaced (now ledger) place at ⌝ }
     ensures { λ r. ⌜ Laid (now (ledger .entry)) (flagged meta start stop) place at (now (out .entry)) (λ _. end) (now (out .exit)) r ⌝ }
 {
-    let fourth = read_run(ledger, place, &FLAG, out, at);
+    let fourth = read_run(ledger, place, &marks::FLAG, out, at);
     let Step::Done {
-        at: a1,
-        place: p1,
+        at,
+        place,
         last: accel,
     } = fourth
     else {
         return fourth;
     };
-    let fifth = read_run(ledger, p1, &FLAG, out, a1);
+    let fifth = read_run(ledger, place, &marks::FLAG, out, at);
     let Step::Done {
-        at: a2,
-        place: p2,
+        at,
+        place,
         last: cov,
     } = fifth
     else {
         return fifth;
     };
     if meta == 1 {
-        let about = read_metadata(ledger, p2, start, stop, out, a2);
-        let Step::Done {
-            at: a3,
-            place: p3,
-            last: _,
-        } = about
-        else {
+        let about = read_metadata(ledger, place, start, stop, out, at);
+        let Step::Done { at, place, .. } = about else {
             return about;
         };
-        return read_ephemerides(ledger, p3, accel, cov, out, a3);
+        return read_ephemerides(ledger, place, accel, cov, out, at);
     }
-    read_ephemerides(ledger, p2, accel, cov, out, a2)
+    read_ephemerides(ledger, place, accel, cov, out, at)
 }
-
-const SATELLITE: [u8; 3] = [24, 3, 1];
 
 // A satellite's entry. Each flag is a run of its own, since what follows asks for all of them.
 pub fn read_position3(ledger: &[u8], place: usize, out: &mut [u8], at: usize) -> Step
     requires { ⌜ LedgerPlaced (now ledger) place at ⌝ }
     ensures { λ r. ⌜ Laid (now (ledger .entry)) position3 place at (now (out .entry)) (λ _. end) (now (out .exit)) r ⌝ }
 {
-    let head = read_run(ledger, place, &SATELLITE, out, at);
+    let head = read_run(ledger, place, &marks::SATELLITE3, out, at);
     let Step::Done {
-        at: a1,
-        place: p1,
+        at,
+        place,
         last: meta,
     } = head
     else {
         return head;
     };
-    let second = read_run(ledger, p1, &FLAG, out, a1);
+    let second = read_run(ledger, place, &marks::FLAG, out, at);
     let Step::Done {
-        at: a2,
-        place: p2,
+        at,
+        place,
         last: start,
     } = second
     else {
         return second;
     };
-    let third = read_run(ledger, p2, &FLAG, out, a2);
+    let third = read_run(ledger, place, &marks::FLAG, out, at);
     let Step::Done {
-        at: a3,
-        place: p3,
+        at,
+        place,
         last: stop,
     } = third
     else {
         return third;
     };
-    read_flagged(ledger, p3, meta, start, stop, out, a3)
+    read_flagged(ledger, place, meta, start, stop, out, at)
 }

@@ -6,9 +6,9 @@ use Rattle.format.specs.Tables.{usable}
 use Rattle.runs.specs.Lines.{run, signOf, widthOf}
 use Rattle.read_runs.proofs.CameLaws.{done, stops, starts, then, go-on, need-any}
 use Rattle.read_runs.proofs.Runs.{placed-on}
-use Rattle.read_orbits.proofs.Names as names
-use Rattle.read_orbits.proofs.read_metadata.Statement.{statement}
-use Rattle.read_orbits.proofs.read_metadata.Tie as tie
+use Rattle.runs.proofs.Names as names
+use Rattle.read_ephemeris.proofs.read_metadata.Statement.{statement}
+use Rattle.read_ephemeris.proofs.read_metadata.Tie as tie
 
 slice-aggregate-read-run : tie.Need-slice-aggregate-read-run
 slice-aggregate-read-run c = search needs

@@ -5,9 +5,9 @@ use borrow.Author.Tests.{eq-eqb, ne-eqb}
 use mathlib.Core.List.{[]}
 use Rattle.runs.specs.Lines.{run, signOf, widthOf}
 use Rattle.read_runs.proofs.CameLaws.{stay, starts, when-yes, when-no, need-any}
-use Rattle.read_orbits.proofs.Names as names
-use Rattle.read_orbits.proofs.read_usable.Statement.{statement}
-use Rattle.read_orbits.proofs.read_usable.Tie as tie
+use Rattle.runs.proofs.Names as names
+use Rattle.read_ephemeris.proofs.read_usable.Statement.{statement}
+use Rattle.read_ephemeris.proofs.read_usable.Tie as tie
 
 slice-aggregate-read-run : tie.Need-slice-aggregate-read-run
 slice-aggregate-read-run c = search needs

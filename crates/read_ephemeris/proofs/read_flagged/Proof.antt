@@ -9,9 +9,9 @@ use Rattle.format.specs.Tables.{bits, metadata, ephemerides}
 use Rattle.runs.specs.Lines.{run, signOf, widthOf}
 use Rattle.read_runs.proofs.CameLaws.{done, stops, starts, then, go-on, when-yes, when-no}
 use Rattle.read_runs.proofs.Runs.{placed-on}
-use Rattle.read_orbits.proofs.Names as names
-use Rattle.read_orbits.proofs.read_flagged.Statement.{statement}
-use Rattle.read_orbits.proofs.read_flagged.Tie as tie
+use Rattle.runs.proofs.Names as names
+use Rattle.read_ephemeris.proofs.read_flagged.Statement.{statement}
+use Rattle.read_ephemeris.proofs.read_flagged.Tie as tie
 
 abbrev rest : ℕ → ℕ → ℕ → ℕ → ℕ → Syntax
 rest meta start stop accel cov = when (eqb meta 1) (metadata start stop (ephemerides accel cov)) (ephemerides accel cov)

@@ -5,9 +5,9 @@ use Rattle.format.specs.Syntax.{end}
 use Rattle.format.specs.Tables.{header}
 use Rattle.runs.specs.Lines.{run, signOf, widthOf}
 use Rattle.read_runs.proofs.CameLaws.{starts, need-any}
-use Rattle.read_orbits.proofs.Names as names
-use Rattle.read_orbits.proofs.read_header.Statement.{statement}
-use Rattle.read_orbits.proofs.read_header.Tie as tie
+use Rattle.runs.proofs.Names as names
+use Rattle.read_ephemeris.proofs.read_header.Statement.{statement}
+use Rattle.read_ephemeris.proofs.read_header.Tie as tie
 
 slice-aggregate-read-run : tie.Need-slice-aggregate-read-run
 slice-aggregate-read-run c = search needs

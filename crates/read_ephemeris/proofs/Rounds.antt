@@ -11,7 +11,7 @@ use Rattle.format.specs.Ledger.{readLedger}
 use Rattle.format.specs.Tables.{times, motion, acceleration, ephemeris}
 use Rattle.runs.specs.Lines.{signOf, widthOf, run, runOf}
 use Rattle.read_runs.proofs.CameLaws.{Same}
-use Rattle.read_orbits.proofs.Names as names
+use Rattle.runs.proofs.Names as names
 
 -- two descriptions by which the same is read from any bytes; n: the ledger's bytes in all
 abbrev Alike : ℕ → Syntax → Syntax → Type 0

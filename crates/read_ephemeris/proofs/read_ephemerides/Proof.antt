@@ -6,10 +6,10 @@ use Rattle.format.specs.Tables.{times, ephemeris, covariance}
 use Rattle.runs.specs.Lines.{run, signOf, widthOf}
 use Rattle.read_runs.proofs.CameLaws.{done, stops, starts, then, go-on}
 use Rattle.read_runs.proofs.Runs.{placed-on}
-use Rattle.read_orbits.proofs.Names as names
-use Rattle.read_orbits.proofs.Rounds.{entries-moved, entries-still}
-use Rattle.read_orbits.proofs.read_ephemerides.Statement.{statement}
-use Rattle.read_orbits.proofs.read_ephemerides.Tie as tie
+use Rattle.runs.proofs.Names as names
+use Rattle.read_ephemeris.proofs.Rounds.{entries-moved, entries-still}
+use Rattle.read_ephemeris.proofs.read_ephemerides.Statement.{statement}
+use Rattle.read_ephemeris.proofs.read_ephemerides.Tie as tie
 
 slice-aggregate-read-run : tie.Need-slice-aggregate-read-run
 slice-aggregate-read-run c = search needs
