@@ -1,7 +1,7 @@
 -- Big-endian numbers in bytes: the turns of `get_be` and `put_be`.
 -- Assumes nothing.
 use Prim.Native.Nat.{ℕ, suc, _+_, _-_, _*_, _/_, _%_, _^_, _≤_, _<_}
-use mathlib.Core.Path.{_≡_, refl, sym, ap, _∙_}
+use mathlib.Core.Path.{_≡_, refl, sym, ap, _∙_, subst}
 use mathlib.Core.List.{List, [], _∷_}
 use native.Mathlib.Nat.{add-zero, div-one, pow-zero, pow-suc, div-div-eq-div-mul, pow-le-pow-right, lt-of-lt-of-le}
 use native.Mathlib.Numerals.{add-one}
@@ -52,6 +52,27 @@ spelt-both s at a b hi lo h x y =
       bits = rw (e, valueAt-add s (8 * at) (8 * a) (8 * b) (omega arith), ← x .bits, ← pow-256 b, ← f, ← y .bits);
     }
 
+-- two, four and eight bytes, by the weight of each
+pub spelt-two : {s : List ℕ} {at b₀ b₁ : ℕ} → at + 2 ≤ length s → Spelt s at 1 b₀ → Spelt s (at + 1) 1 b₁ → Spelt s at 2 (b₁ + b₀ * 256)
+spelt-two {s} {at} {b₀} {b₁} h x₀ x₁ = subst (Spelt s at 2) (omega arith) (spelt-both s at 1 1 b₀ b₁ (omega arith) x₀ x₁)
+
+further : {s : List ℕ} {i j k v : ℕ} → i ≡ j → Spelt s i k v → Spelt s j k v
+further {s} {i} {j} {k} {v} e x = subst (λ (p : ℕ). Spelt s p k v) e x
+
+pub spelt-four : {s : List ℕ} {at b₀ b₁ b₂ b₃ : ℕ} → at + 4 ≤ length s → Spelt s at 1 b₀ → Spelt s (at + 1) 1 b₁ → Spelt s (at + 2) 1 b₂ → Spelt s (at + 3) 1 b₃
+    → Spelt s at 4 (b₃ + b₂ * 256 + b₁ * 65536 + b₀ * 16777216)
+spelt-four {s} {at} h x₀ x₁ x₂ x₃ =
+    subst (Spelt s at 4) (omega arith)
+    (spelt-both s at 2 2 _ _ (omega arith) (spelt-two (omega arith) x₀ x₁) (spelt-two (omega arith) x₂ (further (omega arith) x₃)))
+
+pub spelt-eight : {s : List ℕ} {at b₀ b₁ b₂ b₃ b₄ b₅ b₆ b₇ : ℕ} → at + 8 ≤ length s → Spelt s at 1 b₀ → Spelt s (at + 1) 1 b₁ → Spelt s (at + 2) 1 b₂ → Spelt s (at + 3) 1 b₃
+    → Spelt s (at + 4) 1 b₄ → Spelt s (at + 5) 1 b₅ → Spelt s (at + 6) 1 b₆ → Spelt s (at + 7) 1 b₇
+    → Spelt s at 8 (b₇ + b₆ * 256 + b₅ * 65536 + b₄ * 16777216 + b₃ * 4294967296 + b₂ * 1099511627776 + b₁ * 281474976710656 + b₀ * 72057594037927936)
+spelt-eight {s} {at} h x₀ x₁ x₂ x₃ x₄ x₅ x₆ x₇ =
+    subst (Spelt s at 8) (omega arith)
+    (spelt-both s at 4 4 _ _ (omega arith) (spelt-four (omega arith) x₀ x₁ x₂ x₃)
+    (spelt-four (omega arith) x₄ (further (omega arith) x₅) (further (omega arith) x₆) (further (omega arith) x₇)))
+
 pub spelt-lt : (s : List ℕ) (at k v : ℕ) → Spelt s at k v → v < 256 ^ k
 spelt-lt s at k v x = rw (x .bits, pow-256 k) (valueAt-lt s (8 * at) (8 * k))
 
@@ -78,6 +99,11 @@ pub put-both : (l : List ℕ) (at m k n v : ℕ) → n ≡ at + m → at + m + k
 put-both l at m k n v e h =
     let size : length (digits 256 m (v / 256 ^ k)) ≡ m = length-digits 256 m (v / 256 ^ k) in
     rw (splice-splice l at (digits 256 m (v / 256 ^ k)) (digits 256 k v) n (omega arith) (omega arith), digits-split 256 m k v)
+
+-- a byte stored
+pub put-one : (l : List ℕ) (at v : ℕ) → at < length l → set l at (v % 256) ≡ splice l at (digits 256 1 v)
+unfolding digits
+put-one l at v h = set-one l at (v % 256) h ∙ ap (λ (z : ℕ). splice l at (z % 256 ∷ [])) (sym (div-one v))
 
 -- two bytes stored one by one
 pub put-two : (l : List ℕ) (at v : ℕ) → at + 2 ≤ length l → set (set l at (v / 256 % 256)) (at + 1) (v % 256) ≡ splice l at (digits 256 2 v)

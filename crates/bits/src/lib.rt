@@ -88,20 +88,32 @@ fn value_bytewise(s: &[u8], at: usize, bits: usize) -> u64
     value
 }
 
-// The number of two bytes from a byte place. Each of these three has a type of its own size: so the compiler makes one load of it.
-fn pair_at(s: &[u8], at: usize) -> u16
+// A byte as a number.
+fn byte_at(s: &[u8], at: usize) -> u64
+    requires { ⌜ at + 1 ≤ length (now s) ⌝ }
+    ensures { λ r. ⌜ Spelt (now (s .entry)) at 1 r × (r < 256) ⌝ }
+{
+    s[at] as u64
+}
+
+// The number of two bytes. In this form, each byte with its own weight and the last one first, the compiler makes one load of
+// it, and so of four and of eight.
+fn pair_at(s: &[u8], at: usize) -> u64
     requires { ⌜ at + 2 ≤ length (now s) ⌝ }
     ensures { λ r. ⌜ Spelt (now (s .entry)) at 2 r ⌝ }
 {
-    s[at] as u16 * 256 + s[at + 1] as u16
+    byte_at(s, at + 1) + byte_at(s, at) * 256
 }
 
 // The number of four bytes.
-fn quad_at(s: &[u8], at: usize) -> u32
+fn quad_at(s: &[u8], at: usize) -> u64
     requires { ⌜ at + 4 ≤ length (now s) ⌝ }
     ensures { λ r. ⌜ Spelt (now (s .entry)) at 4 r ⌝ }
 {
-    pair_at(s, at) as u32 * 65536 + pair_at(s, at + 2) as u32
+    byte_at(s, at + 3)
+        + byte_at(s, at + 2) * 256
+        + byte_at(s, at + 1) * 65536
+        + byte_at(s, at) * 16777216
 }
 
 // The number of eight bytes.
@@ -109,7 +121,14 @@ fn word_at(s: &[u8], at: usize) -> u64
     requires { ⌜ at + 8 ≤ length (now s) ⌝ }
     ensures { λ r. ⌜ Spelt (now (s .entry)) at 8 r ⌝ }
 {
-    quad_at(s, at) as u64 * 4294967296 + quad_at(s, at + 4) as u64
+    byte_at(s, at + 7)
+        + byte_at(s, at + 6) * 256
+        + byte_at(s, at + 5) * 65536
+        + byte_at(s, at + 4) * 16777216
+        + byte_at(s, at + 3) * 4294967296
+        + byte_at(s, at + 2) * 1099511627776
+        + byte_at(s, at + 1) * 281474976710656
+        + byte_at(s, at) * 72057594037927936
 }
 
 // The number that bits spell which are known to be there: cut out of eight bytes where these are there too.
@@ -193,16 +212,27 @@ pub fn get_be(s: &[u8], at: usize, k: usize) -> u64
     requires { ⌜ (at + k ≤ length (now s)) × (k ≤ 8) ⌝ }
     ensures { λ r. ⌜ r ≡ value 256 (take k (drop at (now (s .entry)))) ⌝ }
 {
+    if k == 1 {
+        return byte_at(s, at);
+    }
     if k == 2 {
-        return pair_at(s, at) as u64;
+        return pair_at(s, at);
     }
     if k == 4 {
-        return quad_at(s, at) as u64;
+        return quad_at(s, at);
     }
     if k == 8 {
         return word_at(s, at);
     }
     bytes_at(s, at, k)
+}
+
+// Stores the low byte of v at a byte place.
+fn put_byte(out: &mut [u8], at: usize, v: u64)
+    requires { ⌜ at + 1 ≤ length (now out) ⌝ }
+    ensures { λ _. ⌜ now (out .exit) ≡ splice (now (out .entry)) at (digits 256 1 v) ⌝ }
+{
+    out[at] = (v % 256) as u8;
 }
 
 // Stores the two low bytes of v from a byte place on.
@@ -251,7 +281,9 @@ pub fn put_be(out: &mut [u8], at: usize, k: usize, v: u64)
     requires { ⌜ at + k ≤ length (now out) ⌝ }
     ensures { λ _. ⌜ now (out .exit) ≡ splice (now (out .entry)) at (digits 256 k v) ⌝ }
 {
-    if k == 2 {
+    if k == 1 {
+        put_byte(out, at, v);
+    } else if k == 2 {
         put_pair(out, at, v);
     } else if k == 4 {
         put_quad(out, at, v);

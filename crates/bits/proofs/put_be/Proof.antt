@@ -6,6 +6,9 @@ use borrow.Author.Needs.{needs}
 use Rattle.bits.proofs.put_be.Statement.{statement}
 use Rattle.bits.proofs.put_be.Tie as tie
 
+put-byte-requires : tie.Need-put-byte-requires
+put-byte-requires c κs = search needs
+
 put-pair-requires : tie.Need-put-pair-requires
 put-pair-requires c κs = search needs
 
@@ -22,30 +25,37 @@ same-length : tie.Need-same-length
 same-length c = search needs
 
 returns : tie.Need-returns
-returns c = let e : c .before .before .before .before .before .before .args .k ≡ 2 = omega arith in rw e (c .before .before .put-pair .ensures)
+returns c = let e : c .before .before .before .before .before .before .args .k ≡ 1 = omega arith in rw e (c .before .before .put-byte .ensures)
 
 same-length-2 : tie.Need-same-length-2
 same-length-2 c = search needs
 
 returns-2 : tie.Need-returns-2
-returns-2 c = let e : c .before .before .before .before .before .before .before .args .k ≡ 4 = omega arith in rw e (c .before .before .put-quad .ensures)
+returns-2 c = let e : c .before .before .before .before .before .before .before .args .k ≡ 2 = omega arith in rw e (c .before .before .put-pair .ensures)
 
 same-length-3 : tie.Need-same-length-3
 same-length-3 c = search needs
 
 returns-3 : tie.Need-returns-3
-returns-3 c = let e : c .before .before .before .before .before .before .before .before .args .k ≡ 8 = omega arith in rw e (c .before .before .put-word .ensures)
+returns-3 c = let e : c .before .before .before .before .before .before .before .before .args .k ≡ 4 = omega arith in rw e (c .before .before .put-quad .ensures)
 
 same-length-4 : tie.Need-same-length-4
 same-length-4 c = search needs
 
 returns-4 : tie.Need-returns-4
-returns-4 c = search needs
+returns-4 c = let e : c .before .before .before .before .before .before .before .before .before .args .k ≡ 8 = omega arith in rw e (c .before .before .put-word .ensures)
+
+same-length-5 : tie.Need-same-length-5
+same-length-5 c = search needs
+
+returns-5 : tie.Need-returns-5
+returns-5 c = search needs
 
 pub put-be-spec : {M : Type 1} → statement M
 put-be-spec =
     tie.close
     (tie.spec
+    put-byte-requires
     put-pair-requires
     put-quad-requires
     put-word-requires
@@ -57,4 +67,6 @@ put-be-spec =
     same-length-3
     returns-3
     same-length-4
-    returns-4)
+    returns-4
+    same-length-5
+    returns-5)
