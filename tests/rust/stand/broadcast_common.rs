@@ -26,10 +26,12 @@ pub mod bits {
     }
 
     impl<'a> BitReader<'a> {
+        #[inline]
         pub fn new(data: &'a [u8]) -> Self {
             BitReader { data, place: 0 }
         }
 
+        #[inline]
         fn past(&self, bits: usize) -> Result<usize, Overrun> {
             let end = self.place.checked_add(bits).ok_or(Overrun)?;
             if end <= self.data.len() * 8 {
@@ -39,22 +41,44 @@ pub mod bits {
             }
         }
 
+        #[inline]
         pub fn skip_bits(&mut self, bits: usize) -> Result<(), Overrun> {
             self.place = self.past(bits)?;
             Ok(())
         }
 
+        #[inline]
         pub fn read_bits(&mut self, bits: u32) -> Result<u64, Overrun> {
             assert!(bits <= 64, "at most 64 bits at once");
             let end = self.past(bits as usize)?;
-            let mut value = 0u64;
-            for at in self.place..end {
-                let bit = (self.data[at / 8] >> (7 - at % 8)) & 1;
-                value = (value << 1) | u64::from(bit);
-            }
+            let (first, skip) = (self.place / 8, self.place % 8);
             self.place = end;
-            Ok(value)
+            Ok(match self.data.get(first..first + 9) {
+                _ if bits == 0 => 0,
+                Some(nine) => leading(nine, skip, bits),
+                None => trailing(self.data, end, bits),
+            })
         }
+    }
+
+    /// Bits behind the first `skip` ones, by a word of eight bytes; they seldom reach the ninth.
+    #[inline]
+    fn leading(nine: &[u8], skip: usize, bits: u32) -> u64 {
+        let mut top = u64::from_be_bytes(nine[..8].try_into().unwrap()) << skip;
+        if bits as usize + skip > 64 {
+            top |= u64::from(nine[8]) >> (8 - skip);
+        }
+        top >> (64 - bits)
+    }
+
+    /// Bits in front of bit `end` that start within the last eight bytes, by these as a word.
+    #[inline(never)]
+    fn trailing(data: &[u8], end: usize, bits: u32) -> u64 {
+        let word = match data.last_chunk::<8>() {
+            Some(eight) => u64::from_be_bytes(*eight),
+            None => data.iter().fold(0, |word, &byte| word << 8 | u64::from(byte)),
+        };
+        word >> (data.len() * 8 - end) & u64::MAX >> (64 - bits)
     }
 }
 
@@ -68,6 +92,7 @@ pub mod len {
     }
 
     /// The value itself if it fits in that many bits.
+    #[inline]
     pub fn fit_bits(value: u64, bits: u32, field: &'static str) -> Result<u64, FieldOverflow> {
         let max = if bits >= 64 { u64::MAX } else { (1u64 << bits) - 1 };
         if value <= max {
@@ -78,6 +103,7 @@ pub mod len {
     }
 
     /// The value itself if it has no bit outside the mask.
+    #[inline]
     pub fn fit_mask<T>(value: T, mask: T, field: &'static str) -> Result<T, FieldOverflow>
     where
         T: Copy + Into<u64>,

@@ -1,24 +1,24 @@
 //! Field list of table id 0.
 
 use super::super::{PositionSystem, PositionV2Body, PositionV2Satellite};
-use super::List;
+use super::{At, Sink};
 
-pub fn list(body: &PositionV2Body, l: &mut List) {
-    l.count("satellites.len", body.satellites.len());
+pub fn list<'a>(body: &'a PositionV2Body, l: &mut impl Sink<'a>) {
+    l.count(&At::TOP, "satellites.len", body.satellites.len());
     for (i, sat) in body.satellites.iter().enumerate() {
-        satellite(sat, &format!("satellites[{i}]"), l);
+        satellite(sat, &At::TOP.entry("satellites", i), l);
     }
 }
 
-fn satellite(sat: &PositionV2Satellite, at: &str, l: &mut List) {
+fn satellite<'a>(sat: &'a PositionV2Satellite, at: &At<'_>, l: &mut impl Sink<'a>) {
     let system = matches!(sat.position, PositionSystem::Sgp4 { .. });
     l.bits(at, "satellite_id", 24, sat.satellite_id);
     l.bits(at, "reserved_zero_future_use", 7, sat.reserved_zero_future_use);
     l.flag(at, "position_system", system);
-    position(&sat.position, &format!("{at}.position"), l);
+    position(&sat.position, &at.part("position"), l);
 }
 
-fn position(position: &PositionSystem, at: &str, l: &mut List) {
+fn position<'a>(position: &'a PositionSystem, at: &At<'_>, l: &mut impl Sink<'a>) {
     match position {
         PositionSystem::Orbital { orbital_position, west_east_flag, reserved_zero_future_use } => {
             l.bits(at, "orbital_position", 16, *orbital_position);

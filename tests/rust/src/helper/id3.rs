@@ -1,17 +1,22 @@
 //! Field list of table id 3. Plan lengths are shown, but are no part of the ledger.
 
 use super::super::{BeamhoppingMode, BeamhoppingPlan, BeamhoppingTimePlanBody};
-use super::List;
+use super::{At, Sink};
 
-pub fn list(body: &BeamhoppingTimePlanBody, lengths: &[usize], l: &mut List) {
-    assert_eq!(body.plans.len(), lengths.len(), "the walk by lengths finds the Rust's plans");
-    l.count("plans.len", body.plans.len());
+/// `lengths` has the length of each plan; a sink that keeps no remarks does not look there.
+pub fn list<'a>(body: &'a BeamhoppingTimePlanBody, lengths: &[usize], l: &mut impl Sink<'a>) {
+    l.count(&At::TOP, "plans.len", body.plans.len());
     for (i, plan) in body.plans.iter().enumerate() {
-        one(plan, lengths[i], &format!("plans[{i}]"), l);
+        one(plan, || lengths[i], &At::TOP.entry("plans", i), l);
     }
 }
 
-fn one(p: &BeamhoppingPlan, length: usize, at: &str, l: &mut List) {
+fn one<'a>(
+    p: &'a BeamhoppingPlan,
+    length: impl FnOnce() -> usize,
+    at: &At<'_>,
+    l: &mut impl Sink<'a>,
+) {
     l.bits(at, "beamhopping_time_plan_id", 32, p.beamhopping_time_plan_id);
     l.bits(at, "reserved_zero_future_use_4", 4, p.reserved_zero_future_use_4);
     l.shown(at, "plan_length", length);
@@ -29,14 +34,14 @@ fn one(p: &BeamhoppingPlan, length: usize, at: &str, l: &mut List) {
         p.cycle_duration_ext,
     );
     clock(at, "cycle_duration", cycle, l);
-    mode(&p.mode, &format!("{at}.mode"), l);
+    mode(&p.mode, &at.part("mode"), l);
 }
 
-fn clock(at: &str, stem: &str, clock: (u64, u8, u16), l: &mut List) {
-    l.clock(at, stem, &format!("{stem}_reserved_zero_future_use"), clock);
+fn clock<'a>(at: &At<'_>, stem: &'static str, clock: (u64, u8, u16), l: &mut impl Sink<'a>) {
+    l.clock(at, stem, [stem, "_reserved_zero_future_use"], clock);
 }
 
-fn mode(mode: &BeamhoppingMode, at: &str, l: &mut List) {
+fn mode<'a>(mode: &'a BeamhoppingMode, at: &At<'_>, l: &mut impl Sink<'a>) {
     match mode {
         BeamhoppingMode::Mode0 {
             dwell_duration_base,
@@ -52,13 +57,13 @@ fn mode(mode: &BeamhoppingMode, at: &str, l: &mut List) {
         BeamhoppingMode::Mode1 { .. } => bitmap(mode, at, l),
         BeamhoppingMode::Mode2 { .. } => grid(mode, at, l),
         BeamhoppingMode::Reserved(raw) => {
-            l.count(&format!("{at}.Reserved.len"), raw.len());
-            l.bytes(&format!("{at}.Reserved"), raw);
+            l.count(at, "Reserved.len", raw.len());
+            l.bytes(at, "Reserved", raw);
         }
     }
 }
 
-fn bitmap(mode: &BeamhoppingMode, at: &str, l: &mut List) {
+fn bitmap<'a>(mode: &'a BeamhoppingMode, at: &At<'_>, l: &mut impl Sink<'a>) {
     let BeamhoppingMode::Mode1 {
         bit_map_size,
         current_slot,
@@ -74,10 +79,10 @@ fn bitmap(mode: &BeamhoppingMode, at: &str, l: &mut List) {
     l.bits(at, "reserved_zero_future_use_slot", 1, *reserved_zero_future_use_slot);
     l.bits(at, "current_slot", 15, *current_slot);
     l.slots(at, "slot_transmission_on", slot_transmission_on);
-    l.shown(at, "slots_on", slot_transmission_on.iter().filter(|&&on| on).count());
+    l.shown(at, "slots_on", || slot_transmission_on.iter().filter(|&&on| on).count());
 }
 
-fn grid(mode: &BeamhoppingMode, at: &str, l: &mut List) {
+fn grid<'a>(mode: &'a BeamhoppingMode, at: &At<'_>, l: &mut impl Sink<'a>) {
     let BeamhoppingMode::Mode2 {
         grid_size_base,
         grid_size_ext,
