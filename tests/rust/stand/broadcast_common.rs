@@ -52,6 +52,11 @@ pub mod bits {
             assert!(bits <= 64, "at most 64 bits at once");
             let end = self.past(bits as usize)?;
             let (first, skip) = (self.place / 8, self.place % 8);
+            if cfg!(bitwise) {
+                let value = one_by_one(self.data, self.place, end);
+                self.place = end;
+                return Ok(value);
+            }
             self.place = end;
             Ok(match self.data.get(first..first + 9) {
                 _ if bits == 0 => 0,
@@ -59,6 +64,12 @@ pub mod bits {
                 None => trailing(self.data, end, bits),
             })
         }
+    }
+
+    /// Bits from `place` to `end`, one after the other: the second form of the read, for `--cfg bitwise`.
+    #[inline]
+    fn one_by_one(data: &[u8], place: usize, end: usize) -> u64 {
+        (place..end).fold(0, |value, at| value << 1 | u64::from(data[at / 8] >> (7 - at % 8) & 1))
     }
 
     /// Bits behind the first `skip` ones, by a word of eight bytes; they seldom reach the ninth.
