@@ -1,0 +1,6 @@
+pub mod Calls
+pub mod Lent
+pub mod Local
+pub mod Methods
+pub mod Reading
+pub mod Fields
