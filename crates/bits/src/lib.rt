@@ -345,14 +345,16 @@ fn write_bytewise(out: &mut [u8], at: usize, width: usize, v: u64)
     }
 }
 
-// Stores the low bits of v from a bit place on, and keeps every other bit.
+// Stores the low bits of v from a bit place on, and keeps every other bit. Most fields are four whole bytes, or end within a word.
 pub fn write_u(out: &mut [u8], at: usize, width: usize, v: u64)
     requires { ⌜ Storable (now out) at width ⌝ }
     ensures { λ _. ⌜ bitsOf (now (out .exit)) ≡ splice (bitsOf (now (out .entry))) at (digits 2 width v) ⌝ }
 {
     let first = at / 8;
     let off = at % 8;
-    if 0 < width && off + width <= 64 && first + 8 <= out.len() {
+    if off == 0 && width == 32 {
+        put_quad(out, first, v);
+    } else if off + width <= 64 && first + 8 <= out.len() {
         write_word(out, first, off, width, v);
     } else {
         write_bytewise(out, at, width, v);

@@ -22,7 +22,7 @@ use runs::width_of;
 
 // Stores the low bits of v at a bit place where there is room for them.
 pub fn lay(out: &mut [u8], at: usize, width: usize, v: u64)
-    requires { ⌜ (at ≤ 600000) × (width ≤ 64) ⌝ }
+    requires { ⌜ (at ≤ 600000) × (1 ≤ width) × (width ≤ 64) ⌝ }
     ensures { λ _. ⌜ (at + width ≤ 8 * length (now (out .entry)) → bitsOf (now (out .exit)) ≡ splice (bitsOf (now (out .entry))) at (digits 2 width v)) ⌝ }
 {
     if (at + width + 7) / 8 <= out.len() {
@@ -55,12 +55,16 @@ pub fn read_line(ledger: &[u8], place: usize, mark: u8, out: &mut [u8], at: usiz
         });
     }
     let width = width_of(mark);
-    lay(out, at, width, v);
-    Step::Done {
+    let step = Step::Done {
         at: at + width,
         place: place + size,
         last: v,
+    };
+    if out.len() == 0 {
+        return step;
     }
+    lay(out, at, width, v);
+    step
 }
 
 // A run of fields.

@@ -1,17 +1,24 @@
--- `write_u` meets its contract: into a word, or byte by byte.
+-- `write_u` meets its contract: as four bytes, into a word, or byte by byte.
 -- Assumes nothing.
 use Prim.Native.Nat.{_+_, _*_, _/_, _%_}
 use mathlib.Core.Path.{_≡_}
 use native.Mathlib.Omega.{arith}
+use borrow.Author.Tests.{eqb-true}
 use borrow.Author.Needs.{needs}
+use Rattle.bits.proofs.Groups.{put-bits}
 use Rattle.bits.proofs.write_u.Statement.{statement}
 use Rattle.bits.proofs.write_u.Tie as tie
 
-add-if2 : tie.Need-add-if2
-add-if2 c = search needs
+put-quad-requires : tie.Need-put-quad-requires
+put-quad-requires c κs =
+    let w : c .before .before .before .before .args .width ≡ 32 = eqb-true _ _ (c .before .if2 .taken) in
+    omega arith
 
 add-if3 : tie.Need-add-if3
 add-if3 c = search needs
+
+add-if4 : tie.Need-add-if4
+add-if4 c = search needs
 
 write-word-requires : tie.Need-write-word-requires
 write-word-requires c κs = search needs
@@ -24,25 +31,38 @@ same-length c = search needs
 
 returns : tie.Need-returns
 returns c =
-    let a = c .before .before .before .before .before .before .before .before .args in
-    let p : 8 * (a .at / 8) + a .at % 8 ≡ a .at = omega arith in
-    rw p at (c .before .before .write-word .ensures)
+    let a = c .before .before .before .before .before .before .before .args in
+    let w : a .width ≡ 32 = eqb-true _ _ (c .before .before .before .before .if2 .taken) in
+    let p : 8 * (a .at / 8) ≡ a .at = omega arith in
+    rw (p, ← w) at (put-bits _ (a .at / 8) 4 (a .v) (c .before .before .put-quad .ensures))
 
 same-length-2 : tie.Need-same-length-2
 same-length-2 c = search needs
 
 returns-2 : tie.Need-returns-2
-returns-2 c = search needs
+returns-2 c =
+    let a = c .before .before .before .before .before .before .before .before .args in
+    let p : 8 * (a .at / 8) + a .at % 8 ≡ a .at = omega arith in
+    rw p at (c .before .before .write-word .ensures)
+
+same-length-3 : tie.Need-same-length-3
+same-length-3 c = search needs
+
+returns-3 : tie.Need-returns-3
+returns-3 c = search needs
 
 pub write-u-spec : {M : Type 1} → statement M
 write-u-spec =
     tie.close
     (tie.spec
-    add-if2
+    put-quad-requires
     add-if3
+    add-if4
     write-word-requires
     write-bytewise-requires
     same-length
     returns
     same-length-2
-    returns-2)
+    returns-2
+    same-length-3
+    returns-3)

@@ -1,6 +1,6 @@
--- `read_line`: the bytes are missing, or are no number of the field, or its bits are laid.
+-- `read_line`: the bytes are missing, or are no number of the field, or its bits are laid where there is a buffer.
 -- Assumes nothing.
-use mathlib.Core.Path.{sym, _∙_}
+use mathlib.Core.Path.{refl, sym, _∙_}
 use native.Mathlib.Nat.{mod-lt}
 use native.Mathlib.Omega.{arith}
 use lib.Pow.{pow-pos}
@@ -35,20 +35,35 @@ returns-2 c = (λ nm k. record { to = wrong _ _ nm (c .before .before .before .b
 width-of-requires : tie.Need-width-of-requires
 width-of-requires c κs = search needs
 
+add-if3 : tie.Need-add-if3
+add-if3 c = omega (arith, (c .before .before .before .before .before .before .before .before .before .pre .0) .within, (c .before .before .before .before .before .before .before .before .before .pre .0) .short, (c .before .before .before .before .before .before .before .before .before .pre .0) .behind, (mark-facts (c .before .before .before .before .before .before .before .before .before .args .mark) (c .before .before .before .before .before .before .before .before .before .pre .1)) .some, (mark-facts (c .before .before .before .before .before .before .before .before .before .args .mark) (c .before .before .before .before .before .before .before .before .before .pre .1)) .most, c .width-of .ensures)
+
+add-t12 : tie.Need-add-t12
+add-t12 c = search needs
+
+returns-3 : tie.Need-returns-3
+returns-3 c = (
+  λ nm k. record {
+    to = line-done nm (c .before .before .before .before .before .before .before .before .before .before .args .mark) k (c .before .before .before .before .before .before .before .before .before .before .pre .1) (c .before .width-of .ensures) (c .before .before .before .before .before .before .before .size-of .ensures) ((c .before .before .before .before .before .before .before .before .before .before .pre .0) .within) (c .before .before .before .before .before .before .if1 .left) (c .before .before .before .before .before .get-be .ensures)
+        (c .before .before .before .before .low-of .ensures) (sym (c .before .before .before .shown-of .ensures) ∙ c .before .before .if2 .left) (λ h. absurd (omega (arith, c .if3 .taken, (mark-facts (c .before .before .before .before .before .before .before .before .before .before .args .mark) (c .before .before .before .before .before .before .before .before .before .before .pre .1)) .some, c .before .width-of .ensures))) (refl);
+  },
+  (rw (c .before .before .before .before .low-of .ensures) (mod-lt (c .before .before .before .before .before .get-be .result) (pow-pos (widthOf (c .before .before .before .before .before .before .before .before .before .before .args .mark))))),
+)
+
 lay-requires : tie.Need-lay-requires
-lay-requires c κs = omega (arith, (c .before .before .before .before .before .before .before .before .before .before .pre .0) .within, (c .before .before .before .before .before .before .before .before .before .before .pre .0) .short, (c .before .before .before .before .before .before .before .before .before .before .pre .0) .behind, (mark-facts (c .before .before .before .before .before .before .before .before .before .before .args .mark) (c .before .before .before .before .before .before .before .before .before .before .pre .1)) .most, c .before .width-of .ensures)
-
-add-t10 : tie.Need-add-t10
-add-t10 c = omega (arith, (c .before .before .before .before .before .before .before .before .before .before .before .before .before .pre .0) .within, (c .before .before .before .before .before .before .before .before .before .before .before .before .before .pre .0) .short, (c .before .before .before .before .before .before .before .before .before .before .before .before .before .pre .0) .behind, (mark-facts (c .before .before .before .before .before .before .before .before .before .before .before .before .before .args .mark) (c .before .before .before .before .before .before .before .before .before .before .before .before .before .pre .1)) .most, c .before .before .before .before .width-of .ensures)
-
-add-t11 : tie.Need-add-t11
-add-t11 c = search needs
+lay-requires c κs = omega (arith, (c .before .before .before .before .before .before .before .before .before .before .before .pre .0) .within, (c .before .before .before .before .before .before .before .before .before .before .before .pre .0) .short, (c .before .before .before .before .before .before .before .before .before .before .before .pre .0) .behind, (mark-facts (c .before .before .before .before .before .before .before .before .before .before .before .args .mark) (c .before .before .before .before .before .before .before .before .before .before .before .pre .1)) .some, (mark-facts (c .before .before .before .before .before .before .before .before .before .before .before .args .mark) (c .before .before .before .before .before .before .before .before .before .before .before .pre .1)) .most, c .before .before .width-of .ensures)
 
 same-length : tie.Need-same-length
 same-length c = search needs
 
-returns-3 : tie.Need-returns-3
-returns-3 c = (λ nm k. record { to = line-done nm (c .before .before .before .before .before .before .before .before .before .before .before .before .before .args .mark) k (c .before .before .before .before .before .before .before .before .before .before .before .before .before .pre .1) (c .before .before .before .before .width-of .ensures) (c .before .before .before .before .before .before .before .before .before .before .size-of .ensures) ((c .before .before .before .before .before .before .before .before .before .before .before .before .before .pre .0) .within) (c .before .before .before .before .before .before .before .before .before .if1 .left) (c .before .before .before .before .before .before .before .before .get-be .ensures) (c .before .before .before .before .before .before .before .low-of .ensures) (sym (c .before .before .before .before .before .before .shown-of .ensures) ∙ c .before .before .before .before .before .if2 .left) (c .before .before .lay .ensures) (search needs) }, (rw (c .before .before .before .before .before .before .before .low-of .ensures) (mod-lt (c .before .before .before .before .before .before .before .before .get-be .result) (pow-pos (widthOf (c .before .before .before .before .before .before .before .before .before .before .before .before .before .args .mark))))))
+returns-4 : tie.Need-returns-4
+returns-4 c = (
+  λ nm k. record {
+    to = line-done nm (c .before .before .before .before .before .before .before .before .before .before .before .before .before .before .args .mark) k (c .before .before .before .before .before .before .before .before .before .before .before .before .before .before .pre .1) (c .before .before .before .before .before .width-of .ensures) (c .before .before .before .before .before .before .before .before .before .before .before .size-of .ensures) ((c .before .before .before .before .before .before .before .before .before .before .before .before .before .before .pre .0) .within) (c .before .before .before .before .before .before .before .before .before .before .if1 .left) (c .before .before .before .before .before .before .before .before .before .get-be .ensures)
+        (c .before .before .before .before .before .before .before .before .low-of .ensures) (sym (c .before .before .before .before .before .before .before .shown-of .ensures) ∙ c .before .before .before .before .before .before .if2 .left) (c .before .before .lay .ensures) (search needs);
+  },
+  (rw (c .before .before .before .before .before .before .before .before .low-of .ensures) (mod-lt (c .before .before .before .before .before .before .before .before .before .get-be .result) (pow-pos (widthOf (c .before .before .before .before .before .before .before .before .before .before .before .before .before .before .args .mark))))),
+)
 
 pub read-line-spec : {M : Type 1} → statement M
 read-line-spec =
@@ -62,8 +77,9 @@ read-line-spec =
     shown-of-requires
     returns-2
     width-of-requires
+    add-if3
+    add-t12
+    returns-3
     lay-requires
-    add-t10
-    add-t11
     same-length
-    returns-3)
+    returns-4)
