@@ -9,7 +9,7 @@ use borrow.Author.Tests.{le-leb, lt-leb}
 use Rattle.format.specs.Digits.{bitsOf}
 use Rattle.format.specs.Refusals.{refuse}
 use Rattle.format.specs.Syntax.{Syntax, end, Field, Parse, got, refused, andThen}
-use Rattle.format.specs.Tables.{position, fragment, association, beamhopping, header, position3}
+use Rattle.format.specs.Tables.{position, fragment, association, beamhopping, header}
 use Rattle.format.specs.Body.{readBody}
 use Rattle.format.specs.Whole.{layout, starts, startsAs, bodyStarts}
 use Rattle.format.specs.At.{made, read, endOf, seek}
@@ -20,7 +20,7 @@ use Rattle.format.proofs.Good
 use Rattle.format.proofs.FineTables.{fine-header}
 use Rattle.format.proofs.DigitLaws.{length-bits}
 use Rattle.format.proofs.ReadLaws.{rest-at}
-use Rattle.format.proofs.StartLaws.{ended}
+use Rattle.format.proofs.WalkLaws.{read-on, read-no}
 use Rattle.entries.specs.Entries.{IsList, entrySyntax, leastBits, headSyntax, endRefusal}
 
 -- ---- what stands before the entries
@@ -33,6 +33,8 @@ least-header = omega arith
 pub record Headed (id : ℕ) (b : List ℕ) (q : ℕ) : Type 0 where
   pub within : q ≤ 8 * length b
   pub byte : q % 8 ≡ 0
+  pub hs : List Field
+  pub reads : readBody (8 * length b) 0 (headSyntax id) (bitsOf b) ≡ got hs (drop q (bitsOf b))
   pub starts : startsAs (layout id) b ≡ starts (8 * length b) (leastBits id) (entrySyntax id) (8 * length b - q) (drop q (bitsOf b))
 
 no-head : (b : List ℕ) (q : ℕ) → endOf b end 0 ≡ At q → q ≡ 0
@@ -45,45 +47,32 @@ module _ (b : List ℕ) where
   abbrev n : ℕ
   n = 8 * length b
 
-  headed-none : (id m : ℕ) (s : Syntax) (q : ℕ) → startsAs (layout id) b ≡ starts n m s (length (bitsOf b)) (bitsOf b) → leastBits id ≡ m → entrySyntax id ≡ s
+  headed-none : (id m : ℕ) (s : Syntax) (q : ℕ) → startsAs (layout id) b ≡ starts n m s (length (bitsOf b)) (bitsOf b) → leastBits id ≡ m → entrySyntax id ≡ s → headSyntax id ≡ end
       → endOf b end 0 ≡ At q → Headed id b q
-  headed-none id m s q h em es e =
+  unfolding readBody
+  headed-none id m s q h em es eh e =
       let z : q ≡ 0 = no-head b q e in
       let l : length (bitsOf b) ≡ n - 0 = length-bits b ∙ omega arith in
-      rw z (record { within = omega arith; byte = refl; starts = h ∙ rw (l, em, es) })
+      rw z (record { within = omega arith; byte = refl; hs = []; reads = rw eh; starts = h ∙ rw (l, em, es) })
 
   headed-some : (q : ℕ) → endOf b header 0 ≡ At q → Headed 4 b q
-  unfolding endOf read startsAs
-  headed-some q e = go (readBody n 0 header (bitsOf b)) refl e
-    where
-      go : (x : Parse (List Field)) → readBody n 0 header (bitsOf b) ≡ x → made n (λ ts q. At q) Refused x ≡ At q → Headed 4 b q
-      go (refused u v w) r z = let o : _≡_ {A = ℕ} 0 1 = cc in absurd (omega arith)
-      go (got ts rest) r z =
-          let v : n - length rest ≡ q = cc in
-          let t = ended 64 header fine-header least-header (omega arith) b 0 ts rest (omega arith) refl r in
-          let lr : length rest ≡ n - q = omega (arith, ap length (t .left), rest-at b (n - length rest), t .within) in
-          record {
-            within = omega (arith, v);
-            byte = rw v at (t .byte);
-            starts = rw (r, lr) (ap (λ (k : List ℕ). starts n 32 position3 (n - q) k) (t .left ∙ ap (λ (k : ℕ). drop k (bitsOf b)) v));
-          }
+  unfolding startsAs
+  headed-some q e =
+      let t = read-on 64 header fine-header least-header (omega arith) b 0 q (omega arith) refl e in
+      record { within = t .within; byte = t .byte; hs = t .ts; reads = t .reads; starts = rw (t .reads, rest-at b q) }
 
   pub headed : (id q : ℕ) → IsList (layout id) → endOf b (headSyntax id) 0 ≡ At q → Headed id b q
   unfolding startsAs readBody
-  headed zero q l e = headed-none 0 32 position q refl refl refl e
-  headed (suc zero) q l e = headed-none 1 34 fragment q refl refl refl e
+  headed zero q l e = headed-none 0 32 position q refl refl refl refl e
+  headed (suc zero) q l e = headed-none 1 34 fragment q refl refl refl refl e
   headed (suc (suc zero)) q l e = absurd l
-  headed (suc (suc (suc zero))) q l e = headed-none 3 48 beamhopping q refl refl refl e
+  headed (suc (suc (suc zero))) q l e = headed-none 3 48 beamhopping q refl refl refl refl e
   headed (suc (suc (suc (suc zero)))) q l e = headed-some q e
   headed (suc (suc (suc (suc (suc i))))) q l e = absurd l
 
   head-refused : (f : Refusal) → endOf b header 0 ≡ Refused f → startsAs (layout 4) b ≡ refused (f .number) (f .need) (f .have)
-  unfolding endOf read startsAs
-  head-refused f e = go (readBody n 0 header (bitsOf b)) refl e
-    where
-      go : (x : Parse (List Field)) → readBody n 0 header (bitsOf b) ≡ x → made n (λ ts q. At q) Refused x ≡ Refused f → startsAs (layout 4) b ≡ refused (f .number) (f .need) (f .have)
-      go (got ts rest) r z = let o : _≡_ {A = ℕ} 0 1 = cc in absurd (omega arith)
-      go (refused u v w) r z = let y : refuse u v w ≡ f = cc in rw (r, ← y)
+  unfolding startsAs
+  head-refused f e = rw (read-no b header 0 f e)
 
   -- no other table has a head to refuse
   pub unheaded : (id : ℕ) (f : Refusal) → IsList (layout id) → endOf b (headSyntax id) 0 ≡ Refused f → startsAs (layout id) b ≡ refused (f .number) (f .need) (f .have)

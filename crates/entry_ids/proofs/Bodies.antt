@@ -10,22 +10,19 @@ use borrow.Author.Tests.{le-leb, lt-leb}
 use Rattle.format.specs.Digits.{bitsOf, splice}
 use Rattle.format.specs.Refusals.{refuse}
 use Rattle.format.specs.Syntax.{Field, Parse, got, refused, andThen}
-use Rattle.format.specs.Tables.{association, header}
+use Rattle.format.specs.Tables.{association}
 use Rattle.format.specs.Body.{readBody}
-use Rattle.format.specs.Whole.{layout, Table, one, list, asIs, entriesOf, entries, readAs, bodyRead, bodyStarts}
-use Rattle.format.specs.At.{made, read, endOf, seek}
+use Rattle.format.specs.Whole.{Layout, sole, many, opaque, layout, Table, one, list, asIs, entriesOf, entries, readAs, bodyRead, bodyStarts}
+use Rattle.format.specs.At.{endOf, seek}
 use Rattle.format.specs.Added.{entryIds}
 use Rattle.format.specs.declared.Refusal.{Refusal}
-use Rattle.format.specs.declared.EntryEnd.the-variants.{At, Refused}
-use Rattle.format.proofs.DigitLaws.{length-bits}
+use Rattle.format.specs.declared.EntryEnd.the-variants.{At}
 use Rattle.format.proofs.ParseLaws.{cond-got, then-got}
 use Rattle.format.proofs.ReadLaws.{rest-at}
-use Rattle.format.proofs.FineTables.{fine-header}
-use Rattle.format.proofs.StartLaws.{ended}
 use Rattle.format.proofs.AgreeLaws.{Agree, counted, refuses, starts-agree}
-use Rattle.entries.specs.Entries.{IsList, entrySyntax, leastBits, headSyntax}
+use Rattle.entries.specs.Entries.{IsList, entryIn, leastIn, headIn, entrySyntax, leastBits, headSyntax}
 use Rattle.entries.specs.declared.Walked.the-variants as walked
-use Rattle.entries.proofs.Bodies.{least-header, no-header}
+use Rattle.entries.proofs.Bodies.{Headed, headed}
 use Rattle.entry_ids.specs.Ids.{joinAll, gather, idsOf, GatheredIn, Gathered, IdsIn, IdsOf}
 use Rattle.entry_ids.specs.declared.IdsAnswer.{IdsAnswer}
 use Rattle.entry_ids.specs.declared.IdsAnswer.the-variants as ids
@@ -95,47 +92,26 @@ module _ (id : ℕ) (b : List ℕ) where
   gather-listed hs (got es rest) = refl
   gather-listed hs (refused x y z) = refl
 
--- where the head ends, the entries start
-headed-some : (b : List ℕ) (q : ℕ) → endOf b header 0 ≡ At q → (hs : List Field) × (readAs (layout 4) b ≡ listed 4 b hs (8 * length b - q) (drop q (bitsOf b)))
-unfolding endOf read readAs
-headed-some b q e = go (readBody (8 * length b) 0 header (bitsOf b)) refl e
+-- a list's layout by its parts, and its reading where its head ends
+layout-list : (id : ℕ) → IsList (layout id) → layout id ≡ many (headSyntax id) (leastBits id) (entrySyntax id)
+layout-list id l = go (layout id) l
   where
-    go : (x : Parse (List Field)) → readBody (8 * length b) 0 header (bitsOf b) ≡ x → made (8 * length b) (λ ts q. At q) Refused x ≡ At q
-        → (hs : List Field) × (readAs (layout 4) b ≡ listed 4 b hs (8 * length b - q) (drop q (bitsOf b)))
-    go (refused u v w) r z = let o : _≡_ {A = ℕ} 0 1 = cc in absurd (omega arith)
-    go (got hs rest) r z =
-        let v : 8 * length b - length rest ≡ q = cc in
-        let t = ended 64 header fine-header least-header (omega arith) b 0 hs rest (omega arith) refl r in
-        let left : rest ≡ drop q (bitsOf b) = t .left ∙ ap (λ (k : ℕ). drop k (bitsOf b)) v in
-        let size : length (drop q (bitsOf b)) ≡ 8 * length b - q = rest-at b q in
-        (hs, rw (r, left, size))
+    go : (y : Layout) → IsList y → y ≡ many (headIn y) (leastIn y) (entryIn y)
+    go (sole s) l = absurd l
+    go (many h m s) l = refl
+    go opaque l = absurd l
 
-headed : (id : ℕ) (b : List ℕ) (q : ℕ) → IsList (layout id) → endOf b (headSyntax id) 0 ≡ At q
-    → (hs : List Field) × (readAs (layout id) b ≡ listed id b hs (8 * length b - q) (drop q (bitsOf b)))
-unfolding readAs readBody
-headed id b q l e = go id l e
-  where
-    size : length (bitsOf b) ≡ 8 * length b - 0
-    size = length-bits b ∙ omega arith
-
-    none : (k : ℕ) → IsList (layout k) → (k ≡ 4 → ⊥) → endOf b (headSyntax k) 0 ≡ At q → q ≡ 0
-    none k l h e = let z : At 0 ≡ endOf b (headSyntax k) 0 = no-header b k l h in cc
-
-    go : (k : ℕ) → IsList (layout k) → endOf b (headSyntax k) 0 ≡ At q → (hs : List Field) × (readAs (layout k) b ≡ listed k b hs (8 * length b - q) (drop q (bitsOf b)))
-    go zero l e = ([], rw (none 0 l (λ z. omega arith) e, size))
-    go (suc zero) l e = ([], rw (none 1 l (λ z. omega arith) e, size))
-    go (suc (suc zero)) l e = absurd l
-    go (suc (suc (suc zero))) l e = ([], rw (none 3 l (λ z. omega arith) e, size))
-    go (suc (suc (suc (suc zero)))) l e = headed-some b q e
-    go (suc (suc (suc (suc (suc k))))) l e = absurd l
+listed-from : (id : ℕ) (b : List ℕ) (q : ℕ) → IsList (layout id) → (h : Headed id b q) → readAs (layout id) b ≡ listed id b (h .hs) (8 * length b - q) (drop q (bitsOf b))
+unfolding readAs
+listed-from id b q l h = ap (λ (y : Layout). readAs y b) (layout-list id l) ∙ rw (h .reads, rest-at b q)
 
 pub gathered-list : {r : IdsAnswer} {kept : List ℕ} (id : ℕ) (b : List ℕ) (q : ℕ) → length b ≤ 4096 → IsList (layout id) → endOf b (headSyntax id) 0 ≡ At q
     → Gathered (gather id [] (entries (8 * length b) (leastBits id) (entrySyntax id) (8 * length b - q) (drop q (bitsOf b)))) r kept
     → Gathered (idsOf id (bodyRead id b)) r kept
 unfolding bodyRead
 gathered-list id b q h l e g =
-    let o = headed id b q l e in
-    rw (le-leb (length b) 4096 h, o .1, gather-listed id b (o .0)) g
+    let o = headed b id q l e in
+    rw (le-leb (length b) 4096 h, listed-from id b q l o, gather-listed id b (o .hs)) g
 
 -- ---- what a caller gets, of the ids that were gathered
 

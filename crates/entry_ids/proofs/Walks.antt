@@ -7,21 +7,18 @@ use native.Mathlib.Omega.{arith}
 use lib.Dec.{leb}
 use lib.ListN.{length, take, drop}
 use lib.Seq.{length-take-le}
-use borrow.Author.Tests.{le-leb, lt-leb}
 use Rattle.format.specs.Digits.{bitsOf, value, valueAt}
-use Rattle.format.specs.Refusals.{refuse}
 use Rattle.format.specs.Syntax.{Name, Syntax, unsigned, field, Field, num, Parse, got, refused, push}
 use Rattle.format.specs.Tables.{position, fragment, beamhopping, position3}
 use Rattle.format.specs.Body.{readBody}
-use Rattle.format.specs.Whole.{layout, walk, entries}
+use Rattle.format.specs.Whole.{layout, entries}
 use Rattle.format.specs.ByName.{firstBy, the}
-use Rattle.format.specs.At.{made, read, endOf}
+use Rattle.format.specs.At.{endOf}
 use Rattle.format.specs.Added.{idName}
 use Rattle.format.specs.declared.Refusal.{Refusal}
 use Rattle.format.specs.declared.EntryEnd.the-variants.{At, Refused}
 use Rattle.format.proofs.ParseLaws.{cond-got, push-got}
-use Rattle.format.proofs.ReadLaws.{rest-at}
-use Rattle.format.proofs.StartLaws.{ended}
+use Rattle.format.proofs.WalkLaws.{Met, read-on, read-no, turn-on as turns-on, turn-no as turns-no, turn-end as turns-end}
 use Rattle.entries.specs.Entries.{IsList, entrySyntax, leastBits}
 use Rattle.entries.proofs.Ends.{fine-entry, least-entry, byte-entry}
 use Rattle.entry_ids.specs.Ids.{idBits, join, joinAll, gather, Joined, Gathered}
@@ -68,45 +65,30 @@ module _ (id : ℕ) (b : List ℕ) where
   abbrev n : ℕ
   n = 8 * length b
 
+  -- an entry at a place that ends at another
+  abbrev Entry : IsList (layout id) → ℕ → ℕ → Type 0
+  Entry i p q = Met (leastBits id) (entrySyntax id) (fine-entry id i) (least-entry id i) (byte-entry id i) b p q
+
+  entry : (i : IsList (layout id)) (p q : ℕ) → p ≤ n → p % 8 ≡ 0 → endOf b (entrySyntax id) p ≡ At q → Entry i p q
+  entry i p q h a e = read-on (leastBits id) (entrySyntax id) (fine-entry id i) (least-entry id i) (byte-entry id i) b p q h a e
+
   -- the walk that the loop follows, from a place on, and the ids that it gives behind others
   abbrev pub ids-from : ℕ → ℕ → List ℕ → Parse (List ℕ)
   ids-from turns p l = gather id l (entries n (leastBits id) (entrySyntax id) turns (drop p (bitsOf b)))
 
-  turn-on : IsList (layout id) → (turns p q : ℕ) (l : List ℕ) → p ≤ n → p % 8 ≡ 0 → leastBits id ≤ n - p → endOf b (entrySyntax id) p ≡ At q
-      → (ids-from (suc turns) p l ≡ ids-from turns q (join l (valueAt b p (idBits id)))) × (p + leastBits id ≤ q) × (q ≤ n) × (q % 8 ≡ 0)
-  unfolding walk endOf read
-  turn-on i turns p q l h a m e = go (readBody n 0 (entrySyntax id) (drop p (bitsOf b))) refl e
-    where
-      go : (x : Parse (List Field)) → readBody n 0 (entrySyntax id) (drop p (bitsOf b)) ≡ x → made n (λ ts q. At q) Refused x ≡ At q
-          → (ids-from (suc turns) p l ≡ ids-from turns q (join l (valueAt b p (idBits id)))) × (p + leastBits id ≤ q) × (q ≤ n) × (q % 8 ≡ 0)
-      go (refused x y z) r w = let o : _≡_ {A = ℕ} 0 1 = cc in absurd (omega arith)
-      go (got ts rest) r w =
-          let v : n - length rest ≡ q = cc in
-          let t = ended (leastBits id) (entrySyntax id) (fine-entry id i) (least-entry id i) (byte-entry id i) b p ts rest h a r in
-          let left : rest ≡ drop q (bitsOf b) = t .left ∙ ap (λ (k : ℕ). drop k (bitsOf b)) v in (
-            rw (le-leb (leastBits id) (length (drop p (bitsOf b))) (omega (arith, rest-at b p)), r, left)
-                (gather-push id l ts (entries n (leastBits id) (entrySyntax id) turns (drop q (bitsOf b))) ∙ rw (id-at id b p n i r)),
-            omega (arith, t .on, v),
-            omega (arith, t .within, v),
-            omega (arith, t .byte, v),
-          )
+  turn-on : (turns p : ℕ) (l : List ℕ) {q : ℕ} (i : IsList (layout id)) → p ≤ n → leastBits id ≤ n - p → Entry i p q → ids-from (suc turns) p l ≡ ids-from turns q (join l (valueAt b p (idBits id)))
+  turn-on turns p l {q} i h m x =
+      rw (turns-on (λ p ts. ts) (leastBits id) (entrySyntax id) b turns p (x .ts) (drop q (bitsOf b)) h m (x .reads))
+      (gather-push id l (x .ts) (entries n (leastBits id) (entrySyntax id) turns (drop q (bitsOf b))) ∙ rw (id-at id b p n i (x .reads)))
 
   turn-no : (turns p : ℕ) (l : List ℕ) (x : Refusal) → leastBits id ≤ n - p → endOf b (entrySyntax id) p ≡ Refused x
       → ids-from (suc turns) p l ≡ refused (x .number) (x .need) (x .have)
-  unfolding walk endOf read gather
-  turn-no turns p l x m e = go (readBody n 0 (entrySyntax id) (drop p (bitsOf b))) refl e
-    where
-      go : (y : Parse (List Field)) → readBody n 0 (entrySyntax id) (drop p (bitsOf b)) ≡ y → made n (λ ts q. At q) Refused y ≡ Refused x
-          → ids-from (suc turns) p l ≡ refused (x .number) (x .need) (x .have)
-      go (got ts rest) r w = let o : _≡_ {A = ℕ} 0 1 = cc in absurd (omega arith)
-      go (refused u v z) r w =
-          let y : refuse u v z ≡ x = cc in
-          rw (le-leb (leastBits id) (length (drop p (bitsOf b))) (omega (arith, rest-at b p)), r, ← y)
+  unfolding gather
+  turn-no turns p l x m e = rw (turns-no (λ p ts. ts) (leastBits id) (entrySyntax id) b turns p (x .number) (x .need) (x .have) m (read-no b (entrySyntax id) p x e))
 
   turn-end : (turns p : ℕ) (l : List ℕ) → n - p < leastBits id → ids-from turns p l ≡ got l []
-  unfolding walk gather joinAll
-  turn-end zero p l h = refl
-  turn-end (suc turns) p l h = rw (lt-leb (leastBits id) (length (drop p (bitsOf b))) (omega (arith, rest-at b p)))
+  unfolding gather joinAll
+  turn-end turns p l h = rw (turns-end (λ p ts. ts) (leastBits id) (entrySyntax id) b turns p h)
 
   -- ---- the loop
 
@@ -150,20 +132,20 @@ module _ (id : ℕ) (b : List ℕ) where
         → Kept start q count′ kept′
     kept-next {v} {count′} {kept′} q m e w j =
         let o = one-left m in
-        let t = turn-on i (o .0) at q (take count kept) (k .within) (k .byte) m e in
+        let t = entry i at q (k .within) (k .byte) e in
         record {
-          within = t .2;
-          byte = t .3;
-          few = omega (arith, t .1, k .few, j .most, word-entry id i);
+          within = t .within;
+          byte = t .byte;
+          few = omega (arith, t .on, k .few, j .most, word-entry id i);
           room = omega (arith, k .room, j .room);
           turns = o .0;
-          enough = omega (arith, t .1, k .enough, o .1, word-entry id i);
-          whole = k .whole ∙ ap (λ (u : ℕ). ids-from u at (take count kept)) (o .1) ∙ t .0 ∙ ap (ids-from (o .0) q) (ap (join (take count kept)) (sym w) ∙ sym (j .first));
+          enough = omega (arith, t .on, k .enough, o .1, word-entry id i);
+          whole = k .whole ∙ ap (λ (u : ℕ). ids-from u at (take count kept)) (o .1) ∙ turn-on (o .0) at (take count kept) i (k .within) m t ∙ ap (ids-from (o .0) q) (ap (join (take count kept)) (sym w) ∙ sym (j .first));
         }
 
     -- the loop comes nearer to the end
     pub kept-less : (q : ℕ) → leastBits id ≤ n - at → endOf b (entrySyntax id) at ≡ At q → n - q < n - at
-    kept-less q m e = let t = turn-on i 0 at q [] (k .within) (k .byte) m e in omega (arith, t .1, t .2, word-entry id i)
+    kept-less q m e = let t = entry i at q (k .within) (k .byte) e in omega (arith, t .on, t .within, word-entry id i)
 
     -- what the loop hands back
     pub kept-over : length b ≤ 4096 → n - at < leastBits id → Gathered (ids-from (n - start) start []) (ids.Ids count) kept

@@ -12,5 +12,6 @@ pub mod CallLaws
 pub mod ReadLaws
 pub mod GroupLaws
 pub mod ListLaws
+pub mod WalkLaws
 pub mod StartLaws
 pub mod AgreeLaws

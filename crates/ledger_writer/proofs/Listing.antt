@@ -1,32 +1,31 @@
 -- The entries of a body, one after another, as the loop over them writes them.
 -- Assumes nothing.
-use Prim.Native.Nat.{ℕ, zero, suc, _+_, _-_, _*_, _%_, _≤_, _<_}
+use Prim.Native.Nat.{ℕ, suc, _+_, _-_, _*_, _%_, _≤_, _<_}
 use mathlib.Core.Path.{_≡_, refl, sym, ap, _∙_, subst}
 use mathlib.Core.Bool.{Bool, true, false, cond}
 use mathlib.Core.List.{List, [], _∷_, _++_, append-assoc, append-nil}
 use native.Mathlib.Omega.{arith}
 use lib.Dec.{eqb}
 use lib.ListN.{length, drop, length-append}
-use borrow.Author.Tests.{le-leb, lt-leb}
 use Rattle.format.specs.Digits.{digits, bitsOf, splice}
-use Rattle.format.specs.Syntax.{Syntax, end, Field, Parse, got, refused, andThen, push}
+use Rattle.format.specs.Syntax.{Syntax, end, Field, got}
 use Rattle.format.specs.Tables.{position, fragment, beamhopping, position3}
 use Rattle.format.specs.Body.{readBody}
 use Rattle.format.specs.Ledger.{ledger}
-use Rattle.format.specs.Whole.{walk, ledgers}
+use Rattle.format.specs.Whole.{ledgers}
 use Rattle.format.specs.declared.Refusal.{Refusal}
 use Rattle.format.proofs.DigitLaws.{length-digits}
 use Rattle.format.proofs.Good
 use Rattle.format.proofs.FineTables.{fine-position, least-position, fine-fragment, least-fragment, fine-beamhopping, least-beamhopping, fine-position3, least-position3}
 use Rattle.format.proofs.ReadLaws.{rest-at, place-at}
-use Rattle.format.proofs.StartLaws as start-laws
-use Rattle.bits.proofs.Splices.{splice-splice, splice-nil}
+use Rattle.format.proofs.WalkLaws as walk-laws
+use Rattle.format.proofs.WalkLaws.{ahead, ahead-none, ahead-more, turn-on, turn-no, turn-end}
+use Rattle.bits.proofs.Splices.{splice-splice, splice-front, splice-nil}
 use Rattle.runs.specs.declared.Step.{Step}
 use Rattle.runs.specs.declared.Step.the-variants.{Refused}
 use Rattle.write_runs.specs.Went.{Went, Stopped, Placed}
 use Rattle.write_runs.proofs.WentLaws.{pushes-got}
 use Rattle.ledger_writer.specs.Listed.{entryOf, leastOf, entriesIn, entriesAt, Wrote, Faulty, Listed}
-use Rattle.ledger_writer.proofs.Stores.{splice-front}
 
 -- ---- the tables that have entries
 
@@ -48,18 +47,7 @@ least-is id = go (eqb id 0) (eqb id 1) (eqb id 3)
     go false false true = (least-beamhopping, omega arith)
     go false false false = (least-position3, omega arith)
 
--- ---- entries in front of others
-
-abbrev ahead : List (List Field) → Parse (List (List Field)) → Parse (List (List Field))
-ahead es p = andThen p (λ more rest. got (es ++ more) rest)
-
-ahead-none : (p : Parse (List (List Field))) → p ≡ ahead [] p
-ahead-none (got more rest) = refl
-ahead-none (refused x y z) = refl
-
-ahead-more : (es : List (List Field)) (ts : List Field) (p : Parse (List (List Field))) → ahead es (push ts p) ≡ ahead (es ++ ts ∷ []) p
-ahead-more es ts (got more rest) = ap (λ (y : List (List Field)). got y rest) (sym (append-assoc es (ts ∷ []) more))
-ahead-more es ts (refused x y z) = refl
+-- ---- ledgers of entries
 
 ledgers-more : (es : List (List Field)) (ts : List Field) → ledgers (es ++ ts ∷ []) ≡ ledgers es ++ ledger ts
 unfolding ledgers
@@ -69,24 +57,6 @@ ledgers-more (us ∷ es) ts = rw (ledgers-more es ts) (sym (append-assoc (ledger
 ledgers-nil : ledgers [] ≡ []
 unfolding ledgers
 ledgers-nil = refl
-
--- ---- one turn of the walk, by a place
-
-module _ (body : List ℕ) (id turns at : ℕ) where
-  turn-on : (ts : List Field) (rest : List ℕ) → leastOf id ≤ 8 * length body - at → readBody (8 * length body) 0 (entryOf id) (drop at (bitsOf body)) ≡ got ts rest
-      → entriesIn body id (suc turns) at ≡ push ts (walk (λ p us. us) (8 * length body) (leastOf id) (entryOf id) turns rest)
-  unfolding walk
-  turn-on ts rest h e = rw (le-leb (leastOf id) (length (drop at (bitsOf body))) (omega (arith, rest-at body at)), e)
-
-  turn-no : (x y z : ℕ) → leastOf id ≤ 8 * length body - at → readBody (8 * length body) 0 (entryOf id) (drop at (bitsOf body)) ≡ refused x y z
-      → entriesIn body id (suc turns) at ≡ refused x y z
-  unfolding walk
-  turn-no x y z h e = rw (le-leb (leastOf id) (length (drop at (bitsOf body))) (omega (arith, rest-at body at)), e)
-
-turn-end : (body : List ℕ) (id turns at : ℕ) → 8 * length body - at < leastOf id → entriesIn body id turns at ≡ got [] (drop at (bitsOf body))
-unfolding walk
-turn-end body id zero at h = refl
-turn-end body id (suc turns) at h = rw (lt-leb (leastOf id) (length (drop at (bitsOf body))) (omega (arith, rest-at body at)))
 
 -- a description that was gone through to its end
 pub went-got : {body out out′ : List ℕ} {s : Syntax} {at place a p : ℕ} (w : Went body 0 s at place out end a p out′)
@@ -137,7 +107,7 @@ module _ {body out₀ out : List ℕ} {id start place at there count : ℕ} (st 
       → (there + size ≤ length out → out₁ ≡ splice out there (ledger (w .ts))) → (at < a) × Listing body id start place out₀ a (there + size) (count + 1) out₁
   turn {part} {out′} {a} {size} w out₁ h l b =
       let e = place-at body a (w .within) in
-      let x = start-laws.ended (leastOf id) (entryOf id) (fine-of id) (least-is id .0) (least-is id .1) body at (w .ts) (drop a (bitsOf body)) (st .placed .within) (st .aligned) (went-got w) in
+      let x = walk-laws.ended (leastOf id) (entryOf id) (fine-of id) (least-is id .0) (least-is id .1) body at (w .ts) (drop a (bitsOf body)) (st .placed .within) (st .aligned) (went-got w) in
       let ll = ap length (ledgers-more (st .es) (w .ts)) ∙ length-append (ledgers (st .es)) (ledger (w .ts)) in
       let z = w .size in
       let p = st .placed in
@@ -146,7 +116,7 @@ module _ {body out₀ out : List ℕ} {id start place at there count : ℕ} (st 
         record {
           es = st .es ++ w .ts ∷ [];
           walked = st .walked ∙ ap (λ (k : ℕ). ahead (st .es) (entriesIn body id k at)) (left-turns h)
-              ∙ ap (ahead (st .es)) (turn-on body id (n - start - (count + 1)) at (w .ts) (drop a (bitsOf body)) h (went-got w))
+              ∙ ap (ahead (st .es)) (turn-on (λ p us. us) (leastOf id) (entryOf id) body (n - start - (count + 1)) at (w .ts) (drop a (bitsOf body)) (p .within) h (went-got w))
               ∙ ahead-more (st .es) (w .ts) (entriesIn body id (n - start - (count + 1)) a);
           aligned = omega (arith, x .byte, e);
           number = omega (arith, st .number, length-append (st .es) (w .ts ∷ []));
@@ -163,7 +133,7 @@ module _ {body out₀ out : List ℕ} {id start place at there count : ℕ} (st 
   pub stop : {f : Refusal} → Stopped body 0 (entryOf id) at f → leastOf id ≤ n - at → Faulty body id start f
   stop {f} w h = record {
     reads = st .walked ∙ ap (λ (k : ℕ). ahead (st .es) (entriesIn body id k at)) (left-turns h)
-        ∙ ap (ahead (st .es)) (turn-no body id (n - start - (count + 1)) at (f .number) (f .need) (f .have) h (w .reads));
+        ∙ ap (ahead (st .es)) (turn-no (λ p us. us) (leastOf id) (entryOf id) body (n - start - (count + 1)) at (f .number) (f .need) (f .have) h (w .reads));
   }
 
   -- no entry is left, and the count is put in front
@@ -177,7 +147,7 @@ module _ {body out₀ out : List ℕ} {id start place at there count : ℕ} (st 
       record {
         es = st .es;
         rest = drop at (bitsOf body);
-        reads = st .walked ∙ ap (ahead (st .es)) (turn-end body id (n - start - count) at h) ∙ ap (λ (k : List (List Field)). got k (drop at (bitsOf body))) (append-nil (st .es));
+        reads = st .walked ∙ ap (ahead (st .es)) (turn-end (λ p us. us) (leastOf id) (entryOf id) body (n - start - count) at h) ∙ ap (λ (k : List (List Field)). got k (drop at (bitsOf body))) (append-nil (st .es));
         size = omega arith;
         bytes = λ r. b (omega (arith, st .long)) ∙ ap (λ (k : ℕ). splice out place (digits 256 2 k)) (st .number)
             ∙ ap (λ (m : List ℕ). splice m place d) (st .bytes r)

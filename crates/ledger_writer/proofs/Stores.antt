@@ -2,24 +2,14 @@
 -- Assumes nothing.
 use Prim.Native.Nat.{ℕ, _+_, _-_, _≤_, _<_}
 use mathlib.Core.Path.{_≡_, sym, ap, _∙_}
-use mathlib.Core.List.{List, [], _∷_, _++_, append-assoc}
+use mathlib.Core.List.{List, [], _∷_, _++_}
 use native.Mathlib.Numerals.{add-one}
 use native.Mathlib.Omega.{arith}
-use lib.ListN.{length, take, drop, getD, set, length-append, length-take}
-use lib.Seq.{take-append-le, take-take, take-suc, take-all, drop-at, length-take-le}
+use lib.ListN.{length, take, getD, set}
+use lib.Seq.{take-suc, take-all, length-take-le}
 use borrow.Rule.Slice.PartMut.{midOf, putMid, mid-len}
 use Rattle.format.specs.Digits.{splice}
 use Rattle.bits.proofs.Splices.{length-splice, splice-nil, splice-splice, set-one, part-splice}
-
--- a piece stored in front of another is both stored at once
-pub splice-front : (l xs ys : List ℕ) (at n : ℕ) → n ≡ at + length xs → n ≤ length l → splice (splice l n ys) at xs ≡ splice l at (xs ++ ys)
-unfolding splice
-splice-front l xs ys at n e h =
-    let tail : List ℕ = drop (n + length ys) l in
-    let t : take at (take n l ++ (ys ++ tail)) ≡ take at l = take-append-le at (take n l) (ys ++ tail) (simp length-take (omega arith)) ∙ take-take at n l (omega arith) in
-    let d : drop (at + length xs) (take n l ++ (ys ++ tail)) ≡ ys ++ tail = drop-at (take n l) (ys ++ tail) (at + length xs) (simp length-take (omega arith)) in
-    let z : n + length ys ≡ at + length (xs ++ ys) = omega (arith, length-append xs ys) in
-    rw (append-assoc (take n l) ys tail, t, d) (simp append-assoc (ap (λ (k : ℕ). take at l ++ (xs ++ (ys ++ drop k l))) z))
 
 -- a part that was lent, from a place that the buffer has
 pub lent : (out part bs : List ℕ) (from there size : ℕ) → from ≤ length out → (there ≤ length out → from ≡ there) → length bs ≡ size

@@ -24,7 +24,7 @@ use Rattle.format.proofs.ParseLaws.{cond-got, got-not-refused}
 use Rattle.format.proofs.FineTables.{fine-header}
 use Rattle.format.proofs.Good
 use Rattle.format.proofs.ReadLaws.{place-at}
-use Rattle.format.proofs.StartLaws as start-laws
+use Rattle.format.proofs.WalkLaws as walk-laws
 use Rattle.format.proofs.TableLaws.{read-all}
 use Rattle.bits.proofs.Splices.{splice-splice, part-splice}
 use Rattle.runs.specs.Steps.{refusalIn}
@@ -111,7 +111,7 @@ least-header = omega arith
 
 pub header-ends : {body out out′ : List ℕ} {a p : ℕ} → Went body 0 header 0 0 out end a p out′ → a % 8 ≡ 0
 header-ends {body} {a = a} w =
-    let x = start-laws.ended 8 header fine-header least-header (omega arith) body 0 (w .ts) (drop a (bitsOf body)) (omega arith) refl (went-got w) in
+    let x = walk-laws.ended 8 header fine-header least-header (omega arith) body 0 (w .ts) (drop a (bitsOf body)) (omega arith) refl (went-got w) in
     omega (arith, x .byte, place-at body a (w .within))
 
 -- ---- the whole ledger

@@ -2,11 +2,11 @@
 -- Assumes nothing.
 use Prim.Native.Nat.{ℕ, _+_, _-_, _*_, _/_, _%_, _^_, _≤_}
 use mathlib.Core.Path.{_≡_, sym, ap, _∙_, subst}
-use mathlib.Core.List.{List, [], _∷_, _++_, append-assoc}
+use mathlib.Core.List.{List, [], _∷_, _++_}
 use native.Mathlib.Omega.{arith}
 use lib.Dec.{eqb}
 use lib.ListN.{length, take, drop, length-append, length-drop}
-use lib.Seq.{drop-drop, take-append-le, take-take, drop-at, length-take-le}
+use lib.Seq.{drop-drop}
 use Rattle.format.specs.Digits.{digits, value, bitsOf, splice}
 use Rattle.format.specs.Syntax.{Name, Syntax, end, plan, Field, num, len, Parse, got, push}
 use Rattle.format.specs.Body.{plain}
@@ -15,7 +15,7 @@ use Rattle.format.specs.declared.Refusal.{Refusal}
 use Rattle.format.proofs.DigitLaws.{length-digits, length-bits}
 use Rattle.format.proofs.ParseLaws.{push-got, grant-got}
 use Rattle.format.proofs.Good.{plain-nil, plain-num}
-use Rattle.bits.proofs.Splices.{splice-splice}
+use Rattle.bits.proofs.Splices.{splice-front, splice-splice}
 use Rattle.runs.specs.Lines.{signOf, widthOf, sizeOf, run, widthsOf, sizesOf, headName, tailNames}
 use Rattle.runs.specs.declared.Step.{Step}
 use Rattle.runs.specs.declared.Step.the-variants.{Done, Refused}
@@ -56,19 +56,6 @@ run-moved marks {l} {out} {out′} {place} {at} {a} {p} q h y =
       omega (arith, w .size, g .0),
       omega (arith, g .1, ap length (g .2), w .within, length-drop p l, length-drop place l, length-drop (sizesOf marks) (drop place l)),
     )
-
--- ---- what is stored in front of what was stored
-
-splice-front : (l xs ys : List ℕ) (at n : ℕ) → n ≡ at + length xs → n ≤ length l → splice (splice l n ys) at xs ≡ splice l at (xs ++ ys)
-unfolding splice
-splice-front l xs ys at n e h =
-    let a = take n l in
-    let r = drop (n + length ys) l in
-    let t : take at (a ++ ys ++ r) ≡ take at l = ap (take at) (append-assoc a ys r) ∙ take-append-le at a (ys ++ r) (omega (arith, length-take-le n l h)) ∙ take-take at n l (omega arith) in
-    let d : drop (at + length xs) (a ++ ys ++ r) ≡ ys ++ r =
-    ap (λ (k : ℕ). drop k (a ++ ys ++ r)) (sym e) ∙ ap (drop n) (append-assoc a ys r) ∙ drop-at a (ys ++ r) n (length-take-le n l h) in
-    let z : at + length (xs ++ ys) ≡ n + length ys = omega (arith, length-append xs ys) in
-    rw (t, d, z, append-assoc (take at l) xs (ys ++ r), append-assoc (take at l) (xs ++ ys) r, append-assoc xs ys r)
 
 -- ---- entries
 
