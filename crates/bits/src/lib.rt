@@ -276,17 +276,39 @@ fn put_bytes(out: &mut [u8], at: usize, k: usize, v: u64)
     }
 }
 
-// Stores the k low bytes of v from a byte place on; the sizes that a ledger has are stored at once.
-pub fn put_be(out: &mut [u8], at: usize, k: usize, v: u64)
-    requires { ⌜ at + k ≤ length (now out) ⌝ }
+// Fewer than four bytes.
+fn put_short(out: &mut [u8], at: usize, k: usize, v: u64)
+    requires { ⌜ (at + k ≤ length (now out)) × (k < 4) ⌝ }
     ensures { λ _. ⌜ now (out .exit) ≡ splice (now (out .entry)) at (digits 256 k v) ⌝ }
 {
     if k == 1 {
         put_byte(out, at, v);
     } else if k == 2 {
         put_pair(out, at, v);
-    } else if k == 4 {
-        put_quad(out, at, v);
+    } else if k == 3 {
+        put_pair(out, at, v / 256);
+        put_byte(out, at + 2, v);
+    }
+}
+
+// Four to seven bytes.
+fn put_long(out: &mut [u8], at: usize, k: usize, v: u64)
+    requires { ⌜ (at + k ≤ length (now out)) × (4 ≤ k) × (k < 8) ⌝ }
+    ensures { λ _. ⌜ now (out .exit) ≡ splice (now (out .entry)) at (digits 256 k v) ⌝ }
+{
+    put_quad(out, at, v >> (8 * (k - 4)));
+    put_short(out, at + 4, k - 4, v);
+}
+
+// Stores the k low bytes of v from a byte place on, in few stores where there are at most eight of them.
+pub fn put_be(out: &mut [u8], at: usize, k: usize, v: u64)
+    requires { ⌜ at + k ≤ length (now out) ⌝ }
+    ensures { λ _. ⌜ now (out .exit) ≡ splice (now (out .entry)) at (digits 256 k v) ⌝ }
+{
+    if k < 4 {
+        put_short(out, at, k, v);
+    } else if k < 8 {
+        put_long(out, at, k, v);
     } else if k == 8 {
         put_word(out, at, v);
     } else {
@@ -307,28 +329,47 @@ fn patched(b: u8, off: usize, n: usize, c: u64) -> u8
     ((joined << m) + kept) as u8
 }
 
-// The 64 bits of a word with the low bits of v in place of those behind its first `off`.
-fn patched_word(word: u64, off: usize, width: usize, v: u64) -> u64
-    requires { ⌜ (1 ≤ width) × (off + width ≤ 64) ⌝ }
-    ensures { λ r. ⌜ digits 2 64 r ≡ splice (digits 2 64 word) off (digits 2 width v) ⌝ }
+// The first n bits of a byte, and its last n.
+fn first_bits(s: &[u8], q: usize, n: usize) -> u64
+    requires { ⌜ (q < length (now s)) × (n < 8) ⌝ }
+    ensures { λ r. ⌜ r ≡ valueAt (now (s .entry)) (8 * q) n ⌝ }
+{
+    s[q] as u64 >> (8 - n)
+}
+
+fn last_bits(s: &[u8], q: usize, n: usize) -> u64
+    requires { ⌜ (q < length (now s)) × (n < 8) ⌝ }
+    ensures { λ r. ⌜ r ≡ valueAt (now (s .entry)) (8 * q + (8 - n)) n ⌝ }
+{
+    s[q] as u64 % (1u64 << n)
+}
+
+// The low bits of v behind those of head and in front of the `low` bits of tail, as one number.
+fn joined(head: u64, width: usize, v: u64, low: usize, tail: u64) -> u64
+    requires { ⌜ (head < 2 ^ (64 - width - low)) × (tail < 2 ^ low) × (1 ≤ width) × (width < 64) × (width + low ≤ 64) ⌝ }
+    ensures { λ r. ⌜ r ≡ (head * 2 ^ width + v % 2 ^ width) * 2 ^ low + tail ⌝ }
 {
     let rest = 64 - width;
-    let low = rest - off;
-    let old = (word << off) >> rest;
-    let new = (v << rest) >> rest;
-    word - (old << low) + (new << low)
+    let own = (v << rest) >> rest;
+    let front = (head << width) + own;
+    (front << low) + tail
 }
 
-// Stores the low bits of v behind the first `off` bits of the eight bytes from a byte place on.
-fn write_word(out: &mut [u8], first: usize, off: usize, width: usize, v: u64)
-    requires { ⌜ (first + 8 ≤ length (now out)) × (1 ≤ width) × (off + width ≤ 64) ⌝ }
-    ensures { λ _. ⌜ bitsOf (now (out .exit)) ≡ splice (bitsOf (now (out .entry))) (8 * first + off) (digits 2 width v) ⌝ }
+// The low bits of v stored with the bits beside them in the same bytes: at most eight, and no others are touched.
+fn write_within(out: &mut [u8], at: usize, width: usize, v: u64)
+    requires { ⌜ Storable (now out) at width × (width < 58) ⌝ }
+    ensures { λ _. ⌜ bitsOf (now (out .exit)) ≡ splice (bitsOf (now (out .entry))) at (digits 2 width v) ⌝ }
 {
-    let word = word_at(out, first);
-    put_word(out, first, patched_word(word, off, width, v));
+    let first = at / 8;
+    let off = at % 8;
+    let n = (off + width + 7) / 8;
+    let low = 8 * n - off - width;
+    let head = first_bits(out, first, off);
+    let tail = last_bits(out, first + n - 1, low);
+    put_be(out, first, n, joined(head, width, v, low, tail));
 }
 
-// The low bits of v stored a byte at a time: for those near the end.
+// The low bits of v stored a byte at a time: for those that may touch nine bytes.
 fn write_bytewise(out: &mut [u8], at: usize, width: usize, v: u64)
     requires { ⌜ Storable (now out) at width ⌝ }
     ensures { λ _. ⌜ bitsOf (now (out .exit)) ≡ splice (bitsOf (now (out .entry))) at (digits 2 width v) ⌝ }
@@ -345,17 +386,13 @@ fn write_bytewise(out: &mut [u8], at: usize, width: usize, v: u64)
     }
 }
 
-// Stores the low bits of v from a bit place on, and keeps every other bit. Most fields are four whole bytes, or end within a word.
+// Stores the low bits of v from a bit place on, and keeps every other bit.
 pub fn write_u(out: &mut [u8], at: usize, width: usize, v: u64)
     requires { ⌜ Storable (now out) at width ⌝ }
     ensures { λ _. ⌜ bitsOf (now (out .exit)) ≡ splice (bitsOf (now (out .entry))) at (digits 2 width v) ⌝ }
 {
-    let first = at / 8;
-    let off = at % 8;
-    if off == 0 && width == 32 {
-        put_quad(out, first, v);
-    } else if off + width <= 64 && first + 8 <= out.len() {
-        write_word(out, first, off, width, v);
+    if width < 58 {
+        write_within(out, at, width, v);
     } else {
         write_bytewise(out, at, width, v);
     }

@@ -6,14 +6,11 @@ use borrow.Author.Needs.{needs}
 use Rattle.bits.proofs.put_be.Statement.{statement}
 use Rattle.bits.proofs.put_be.Tie as tie
 
-put-byte-requires : tie.Need-put-byte-requires
-put-byte-requires c κs = search needs
+put-short-requires : tie.Need-put-short-requires
+put-short-requires c κs = search needs
 
-put-pair-requires : tie.Need-put-pair-requires
-put-pair-requires c κs = search needs
-
-put-quad-requires : tie.Need-put-quad-requires
-put-quad-requires c κs = search needs
+put-long-requires : tie.Need-put-long-requires
+put-long-requires c κs = search needs
 
 put-word-requires : tie.Need-put-word-requires
 put-word-requires c κs = search needs
@@ -25,39 +22,34 @@ same-length : tie.Need-same-length
 same-length c = search needs
 
 returns : tie.Need-returns
-returns c = let e : c .before .before .before .before .before .before .args .k ≡ 1 = omega arith in rw e (c .before .before .put-byte .ensures)
+returns c = search needs
 
 same-length-2 : tie.Need-same-length-2
 same-length-2 c = search needs
 
 returns-2 : tie.Need-returns-2
-returns-2 c = let e : c .before .before .before .before .before .before .before .args .k ≡ 2 = omega arith in rw e (c .before .before .put-pair .ensures)
+returns-2 c = search needs
 
 same-length-3 : tie.Need-same-length-3
 same-length-3 c = search needs
 
 returns-3 : tie.Need-returns-3
-returns-3 c = let e : c .before .before .before .before .before .before .before .before .args .k ≡ 4 = omega arith in rw e (c .before .before .put-quad .ensures)
+returns-3 c =
+    let e : c .before .before .before .before .before .before .before .before .args .k ≡ 8 = omega arith in
+    rw e (c .before .before .put-word .ensures)
 
 same-length-4 : tie.Need-same-length-4
 same-length-4 c = search needs
 
 returns-4 : tie.Need-returns-4
-returns-4 c = let e : c .before .before .before .before .before .before .before .before .before .args .k ≡ 8 = omega arith in rw e (c .before .before .put-word .ensures)
-
-same-length-5 : tie.Need-same-length-5
-same-length-5 c = search needs
-
-returns-5 : tie.Need-returns-5
-returns-5 c = search needs
+returns-4 c = search needs
 
 pub put-be-spec : {M : Type 1} → statement M
 put-be-spec =
     tie.close
     (tie.spec
-    put-byte-requires
-    put-pair-requires
-    put-quad-requires
+    put-short-requires
+    put-long-requires
     put-word-requires
     put-bytes-requires
     same-length
@@ -67,6 +59,4 @@ put-be-spec =
     same-length-3
     returns-3
     same-length-4
-    returns-4
-    same-length-5
-    returns-5)
+    returns-4)
