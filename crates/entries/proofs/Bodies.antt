@@ -16,18 +16,13 @@ use Rattle.format.specs.At.{made, read, endOf, seek}
 use Rattle.format.specs.declared.Refusal.{Refusal}
 use Rattle.format.specs.declared.EntryEnd.{EntryEnd}
 use Rattle.format.specs.declared.EntryEnd.the-variants.{At, Refused}
-use Rattle.format.proofs.Good
-use Rattle.format.proofs.FineTables.{fine-header}
+use Rattle.format.proofs.FineTables.{fine-header, least-header}
 use Rattle.format.proofs.DigitLaws.{length-bits}
 use Rattle.format.proofs.ReadLaws.{rest-at}
 use Rattle.format.proofs.WalkLaws.{read-on, read-no}
 use Rattle.entries.specs.Entries.{IsList, entrySyntax, leastBits, headSyntax, endRefusal}
 
 -- ---- what stands before the entries
-
-pub least-header : Good.Least 64 header
-unfolding header
-least-header = omega arith
 
 -- where the head ends, the entries start
 pub record Headed (id : ℕ) (b : List ℕ) (q : ℕ) : Type 0 where

@@ -34,6 +34,26 @@ left-length out (got xs rest) = go (leb (length xs) (length out)) refl
     go true e = length-append xs (drop (0 + length xs) out) ∙ omega (arith, length-drop (0 + length xs) out, leb-true (length xs) (length out) e)
     go false e = refl
 
+-- a result's length is one that the buffer has
+answer-within : {t n : ℕ} (id room : ℕ) (p : Parse (List ℕ)) → answer id room p ≡ Done t n → n ≤ room
+unfolding answer
+answer-within id room (refused x y z) e = let o : _≡_ {A = ℕ} 0 1 = cc in absurd (omega arith)
+answer-within {t} {n} id room (got xs rest) e = go (leb (length xs) room) refl _ e
+  where
+    go : (b : Bool) → leb (length xs) room ≡ b → (f : Refusal) → cond b (Done id (length xs)) (Refused f) ≡ Done t n → n ≤ room
+    go true q f e =
+        let z : length xs ≡ n = cc in
+        omega (arith, z, leb-true (length xs) room q)
+    go false q f e = let o : _≡_ {A = ℕ} 0 1 = cc in absurd (omega arith)
+
+pub write-within : {t n : ℕ} (id : ℕ) (b : List ℕ) (room : ℕ) → writeAnswer id b room ≡ Done t n → n ≤ room
+unfolding writeAnswer
+write-within id b room e = answer-within id room (filed id b) e
+
+pub read-within : {t n : ℕ} (l : List ℕ) (room : ℕ) → readAnswer l room ≡ Done t n → n ≤ room
+unfolding readAnswer
+read-within l room e = answer-within (idOf l) room (restored l) e
+
 -- demand 1: after a refusal the buffer is as it was
 pub refused-keeps : (id : ℕ) (out : List ℕ) (p : Parse (List ℕ)) → (numberOf (answer id (length out) p) ≡ 0 → ⊥) → left out p ≡ out
 unfolding answer left numberOf

@@ -192,6 +192,10 @@ pub fine-header : Fine false 0 0 header
 unfolding header
 fine-header = omega arith
 
+pub least-header : Least 64 header
+unfolding header
+least-header = omega arith
+
 keeps-motion : Keeps motion
 keeps-motion j b c r f =
     keeps-stamp "epoch" j b c (u "ephemeris_x" 32 (u "ephemeris_y" 32 (u "ephemeris_z" 32 (u "ephemeris_x_dot" 32 (u "ephemeris_y_dot" 32 (u "ephemeris_z_dot" 32 r))))))

@@ -21,6 +21,7 @@ use read_tables::read_association;
 use read_tables::read_fragment;
 use read_tables::read_position;
 use runs::Step;
+use runs::copy_bytes;
 use runs::step_refusal;
 
 // A refusal whose first value is a place of the ledger.
@@ -107,14 +108,7 @@ fn copy_opaque(ledger: &[u8], out: &mut [u8])
     requires { ⌜ 4 ≤ length (now ledger) ⌝ }
     ensures { λ _. ⌜ (length (now (ledger .entry)) - 4 ≤ length (now (out .entry)) → now (out .exit) ≡ splice (now (out .entry)) 0 (drop 4 (now (ledger .entry)))) ⌝ }
 {
-    let size = ledger.len() - 4;
-    if size <= out.len() {
-        let mut i: usize = 0;
-        while i < size {
-            out[i] = ledger[4 + i];
-            i += 1;
-        }
-    }
+    copy_bytes(&ledger[4..], out);
 }
 
 // A table's fields, by its id; bytes may be over.

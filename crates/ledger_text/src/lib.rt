@@ -1,9 +1,11 @@
-// The lines that the programs print, into a buffer that the caller lends: bytes in hexadecimal, and a refusal.
+// The lines that the programs print: bytes in hexadecimal, and a refusal; into a buffer that the caller lends, or to the output.
 ghost use mathlib.Core.Path.{_≡_};
 ghost use Prim.Native.Nat.{_+_, _*_, _/_, _%_, _≤_, _<_};
 ghost use lib.ListN.{length, drop};
 ghost use Rattle.format.specs.Digits.{splice};
 ghost use Rattle.ledger_text.specs.Text.{hexDigit, hexText, hexLine, decimal, refusalLine, Stored, Numbered};
+use format::Refusal;
+use libc::STDOUT_FILENO;
 
 fn hex_digit(d: u8) -> u8
     requires { ⌜ d < 16 ⌝ }
@@ -113,4 +115,20 @@ pub fn refusal_line(number: u8, need: usize, have: usize, out: &mut [u8]) -> usi
     let third = put_number(out, second, have);
     out[third] = 10;
     third + 1
+}
+
+// Prints bytes in lowercase hexadecimal, as a line; the longest ledger of a body has 8,198.
+pub fn print_bytes(bytes: &[u8])
+    requires { ⌜ length (now bytes) ≤ 8198 ⌝ }
+{
+    let mut line = [0u8; 16397];
+    let size = hex_line(bytes, &mut line);
+    io::write_all(STDOUT_FILENO, &line[..size]);
+}
+
+// Prints a refusal, as a line.
+pub fn print_refusal(f: Refusal) {
+    let mut line = [0u8; 65];
+    let size = refusal_line(f.number, f.need, f.have, &mut line);
+    io::write_all(STDOUT_FILENO, &line[..size]);
 }

@@ -21,8 +21,7 @@ use Rattle.format.specs.declared.Answer.the-variants as says
 use Rattle.format.specs.declared.Refusal.{Refusal}
 use Rattle.format.proofs.DigitLaws.{length-digits}
 use Rattle.format.proofs.ParseLaws.{cond-got, got-not-refused}
-use Rattle.format.proofs.FineTables.{fine-header}
-use Rattle.format.proofs.Good
+use Rattle.format.proofs.FineTables.{fine-header, least-header}
 use Rattle.format.proofs.ReadLaws.{place-at}
 use Rattle.format.proofs.WalkLaws as walk-laws
 use Rattle.format.proofs.TableLaws.{read-all}
@@ -105,13 +104,9 @@ pub layout-headed : (id : ℕ) → id ≡ 4 → layout id ≡ many header (least
 layout-headed id q = rw q
 
 -- the header ends on a byte
-least-header : Good.Least 8 header
-unfolding header
-least-header = omega arith
-
 pub header-ends : {body out out′ : List ℕ} {a p : ℕ} → Went body 0 header 0 0 out end a p out′ → a % 8 ≡ 0
 header-ends {body} {a = a} w =
-    let x = walk-laws.ended 8 header fine-header least-header (omega arith) body 0 (w .ts) (drop a (bitsOf body)) (omega arith) refl (went-got w) in
+    let x = walk-laws.ended 64 header fine-header least-header (omega arith) body 0 (w .ts) (drop a (bitsOf body)) (omega arith) refl (went-got w) in
     omega (arith, x .byte, place-at body a (w .within))
 
 -- ---- the whole ledger

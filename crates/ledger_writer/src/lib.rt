@@ -13,6 +13,7 @@ use bits::put_be;
 use format::Answer;
 use format::Refusal;
 use runs::Step;
+use runs::copy_bytes;
 use runs::step_refusal;
 use write_ephemeris::write_header;
 use write_ephemeris::write_position3;
@@ -106,27 +107,13 @@ fn write_entries(table_id: u8, body: &[u8], start: usize, out: &mut [u8], place:
     }
 }
 
-// Ids 5 to 255: the body as it is, where there is room for it.
-fn write_bytes(body: &[u8], out: &mut [u8])
-    ensures { λ _. ⌜ (length (now (body .entry)) ≤ length (now (out .entry)) → now (out .exit) ≡ splice (now (out .entry)) 0 (now (body .entry))) ⌝ }
-{
-    let n = body.len();
-    if n <= out.len() {
-        let mut i = 0;
-        while i < n {
-            out[i] = body[i];
-            i += 1;
-        }
-    }
-}
-
 // What stands behind a ledger's table id, where there is room for it; the place that it comes to is its size.
 fn write_content(table_id: u8, body: &[u8], out: &mut [u8]) -> Step
     requires { ⌜ length (now body) ≤ 4096 ⌝ }
     ensures { λ r. ⌜ Content (now (body .entry)) «table_id» (now (out .entry)) (now (out .exit)) r ⌝ }
 {
     if 4 < table_id {
-        write_bytes(body, out);
+        copy_bytes(body, out);
         return Step::Done {
             at: 0,
             place: body.len(),

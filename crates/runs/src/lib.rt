@@ -1,7 +1,9 @@
-// What a field is, by the mark that runs of fields have for it: its bits in a body, its bytes in a ledger, its number there.
+// What both directions of the ledger share: what a field is, by its mark in a run of fields; the answer of a step; bytes copied as they are.
 ghost use mathlib.Core.Path.{_≡_};
-ghost use Prim.Native.Nat.{_%_, _^_, _<_};
+ghost use Prim.Native.Nat.{_%_, _^_, _≤_, _<_};
 ghost use lib.Dec.{T};
+ghost use lib.ListN.{length};
+ghost use Rattle.format.specs.Digits.{splice};
 ghost use Rattle.runs.specs.Lines.{widthOf, sizeOf, shownOf, markOk};
 ghost use Rattle.runs.specs.Steps.{refusalIn};
 use format::Refusal;
@@ -87,4 +89,18 @@ pub fn low_of(mark: u8, x: u64) -> u64
         return x;
     }
     x % (1u64 << w)
+}
+
+// Copies bytes as they are to the buffer's start, where there is room for all of them.
+pub fn copy_bytes(bytes: &[u8], out: &mut [u8])
+    ensures { λ _. ⌜ (length (now (bytes .entry)) ≤ length (now (out .entry)) → now (out .exit) ≡ splice (now (out .entry)) 0 (now (bytes .entry))) ⌝ }
+{
+    let n = bytes.len();
+    if n <= out.len() {
+        let mut i = 0;
+        while i < n {
+            out[i] = bytes[i];
+            i += 1;
+        }
+    }
 }

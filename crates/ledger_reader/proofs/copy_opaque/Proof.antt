@@ -1,66 +1,48 @@
--- `copy_opaque` copies a byte a turn.
+-- `copy_opaque` copies all that stands behind the table id.
 -- Assumes nothing.
-use Prim.Native.Nat.{_-_}
+use Prim.Native.Nat.{ℕ, _-_, _≤_}
+use mathlib.Core.Path.{_≡_}
+use mathlib.Core.List.{List}
 use native.Mathlib.Omega.{arith}
+use lib.ListN.{length, take, drop, length-drop}
+use lib.Seq.{take-all}
+use Rattle.format.specs.Digits.{splice}
 use borrow.Author.Needs.{needs}
-use lib.ListN.{length}
-use Rattle.ledger_reader.proofs.Copying.{Copying, begin, long, more, copied}
 use Rattle.ledger_reader.proofs.copy_opaque.Statement.{statement}
 use Rattle.ledger_reader.proofs.copy_opaque.Tie as tie
 
-abbrev Inv-loop : tie.InvT-loop
-Inv-loop ledger out₀ size i₀ out i = Copying ledger out₀ i out
+-- behind the first four, all
+all-of : {out′ : List ℕ} (l out : List ℕ) → (length (take (length l - 4) (drop 4 l)) ≤ length out → out′ ≡ splice out 0 (take (length l - 4) (drop 4 l)))
+    → length l - 4 ≤ length out → out′ ≡ splice out 0 (drop 4 l)
+all-of l out e h =
+    let t : take (length l - 4) (drop 4 l) ≡ drop 4 l = take-all (length l - 4) (drop 4 l) (omega (arith, length-drop 4 l)) in
+    rw t at e (omega (arith, length-drop 4 l))
 
-abbrev μ-loop : tie.MeasureT-loop
-μ-loop ledger out₀ size i₀ out i = length ledger - 4 - i
+sub-copy-bytes : tie.Need-sub-copy-bytes
+sub-copy-bytes c = search needs
 
-sub-size : tie.Need-sub-size Inv-loop μ-loop
-sub-size c = search needs
+part-copy-bytes-start : tie.Need-part-copy-bytes-start
+part-copy-bytes-start c = search needs
 
-loop-holds : tie.Need-loop-holds Inv-loop μ-loop
-loop-holds c = begin (omega arith)
+part-copy-bytes-end : tie.Need-part-copy-bytes-end
+part-copy-bytes-end c = search needs
 
-add-out : tie.Need-add-out Inv-loop μ-loop
-add-out c = search needs
+copy-bytes-requires : tie.Need-copy-bytes-requires
+copy-bytes-requires c κs = search needs
 
-shared-slice-read-out : tie.Need-shared-slice-read-out Inv-loop μ-loop
-shared-slice-read-out c = omega arith
+same-length : tie.Need-same-length
+same-length c = search needs
 
-slice-write-out : tie.Need-slice-write-out Inv-loop μ-loop
-slice-write-out c = omega (arith, long (c .before .before .loop .inv), c .before .before .loop .inv .room)
-
-add-i : tie.Need-add-i Inv-loop μ-loop
-add-i c = omega arith
-
-loop-less : tie.Need-loop-less Inv-loop μ-loop
-loop-less c = omega arith
-
-loop-again : tie.Need-loop-again Inv-loop μ-loop
-loop-again c = more (c .before .before .loop .inv) (omega arith)
-
-same-length : tie.Need-same-length Inv-loop μ-loop
-same-length c = long (c .before .loop .inv)
-
-returns : tie.Need-returns Inv-loop μ-loop
-returns c = λ _. copied (c .before .loop .inv) (omega arith)
-
-returns-2 : tie.Need-returns-2 Inv-loop μ-loop
-returns-2 c = λ h. absurd (omega arith)
+returns : tie.Need-returns
+returns c = λ h. all-of (c .before .before .before .before .before .before .before .args .ledger .now) (c .before .before .before .before .before .before .before .args .out .now) (c .before .before .copy-bytes .ensures) h
 
 pub copy-opaque-spec : {M : Type 1} → statement M
 copy-opaque-spec =
     tie.close
     (tie.spec
-    Inv-loop
-    μ-loop
-    sub-size
-    loop-holds
-    add-out
-    shared-slice-read-out
-    slice-write-out
-    add-i
-    loop-less
-    loop-again
+    sub-copy-bytes
+    part-copy-bytes-start
+    part-copy-bytes-end
+    copy-bytes-requires
     same-length
-    returns
-    returns-2)
+    returns)

@@ -7,14 +7,14 @@ use Rattle.ledger_writer.proofs.WrittenLaws.{as-is, once, listed, unhea
 use Rattle.ledger_writer.proofs.write_content.Statement.{statement}
 use Rattle.ledger_writer.proofs.write_content.Tie as tie
 
-write-bytes-requires : tie.Need-write-bytes-requires
-write-bytes-requires c κs = search needs
+copy-bytes-requires : tie.Need-copy-bytes-requires
+copy-bytes-requires c κs = search needs
 
 same-length : tie.Need-same-length
 same-length c = search needs
 
 returns : tie.Need-returns
-returns c = record { to = as-is (c .before .before .before .before .if1 .taken) (c .before .before .write-bytes .ensures) }
+returns c = record { to = as-is (c .before .before .before .before .if1 .taken) (c .before .before .copy-bytes .ensures) }
 
 write-association-requires : tie.Need-write-association-requires
 write-association-requires c κs = search needs
@@ -62,7 +62,7 @@ pub write-content-spec : {M : Type 1} → statement M
 write-content-spec =
     tie.close
     (tie.spec
-    write-bytes-requires
+    copy-bytes-requires
     same-length
     returns
     write-association-requires

@@ -1,4 +1,5 @@
--- `runs::size_of` meets its contract. Assumes nothing.
+-- `size_of` meets its contract: each test of the mark is the definition's.
+-- Assumes nothing.
 use native.Mathlib.Omega.{arith}
 use Rattle.bits.proofs.Tests.{tests}
 use Rattle.runs.proofs.MarkLaws.{size-signed, size-unsigned}

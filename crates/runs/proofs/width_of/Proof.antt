@@ -1,4 +1,5 @@
--- `runs::width_of` meets its contract. Assumes nothing.
+-- `width_of` meets its contract: each test of the mark is the definition's.
+-- Assumes nothing.
 use borrow.Author.Needs.{needs}
 use Rattle.bits.proofs.Tests.{tests}
 use Rattle.runs.specs.Lines.{widthOf}

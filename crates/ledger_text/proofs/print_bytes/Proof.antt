@@ -1,10 +1,10 @@
--- `print_ledger` writes as many bytes as the line has.
+-- `print_bytes` writes as many bytes as the line has.
 -- Assumes nothing.
 use mathlib.Core.Path.{sym}
 use lib.Seq.{length-take-le}
 use borrow.Author.Needs.{needs}
-use Rattle.sat_ledger.proofs.print_ledger.Statement.{statement}
-use Rattle.sat_ledger.proofs.print_ledger.Tie as tie
+use Rattle.ledger_text.proofs.print_bytes.Statement.{statement}
+use Rattle.ledger_text.proofs.print_bytes.Tie as tie
 
 slice-aggregate-hex-line : tie.Need-slice-aggregate-hex-line
 slice-aggregate-hex-line c = search needs
@@ -24,8 +24,8 @@ write-all-requires c κs = search needs
 returns : tie.Need-returns
 returns c = search needs
 
-pub print-ledger-spec : {M : Type 1} → statement M
-print-ledger-spec =
+pub print-bytes-spec : {M : Type 1} → statement M
+print-bytes-spec =
     tie.close
     (tie.spec
     slice-aggregate-hex-line

@@ -1,18 +1,18 @@
--- `write_bytes`: an element more a turn.
+-- `copy_bytes`: an element more a turn.
 -- Assumes nothing.
 use Prim.Native.Nat.{_-_}
 use native.Mathlib.Omega.{arith}
 use borrow.Author.Needs.{needs}
 use lib.ListN.{length}
-use Rattle.ledger_writer.proofs.Stores.{Copying, copy-none, copy-next, copy-all}
-use Rattle.ledger_writer.proofs.write_bytes.Statement.{statement}
-use Rattle.ledger_writer.proofs.write_bytes.Tie as tie
+use Rattle.runs.proofs.Copies.{Copying, copy-none, copy-next, copy-all}
+use Rattle.runs.proofs.copy_bytes.Statement.{statement}
+use Rattle.runs.proofs.copy_bytes.Tie as tie
 
 abbrev Inv-loop : tie.InvT-loop
-Inv-loop body out₀ n i₀ out i = Copying body out₀ i out
+Inv-loop bytes out₀ n i₀ out i = Copying bytes out₀ i out
 
 abbrev μ-loop : tie.MeasureT-loop
-μ-loop body out₀ n i₀ out i = length body - i
+μ-loop bytes out₀ n i₀ out i = length bytes - i
 
 loop-holds : tie.Need-loop-holds Inv-loop μ-loop
 loop-holds c = copy-none _ _
@@ -41,8 +41,8 @@ returns c = λ h. copy-all (c .before .loop .inv) (omega arith)
 returns-2 : tie.Need-returns-2 Inv-loop μ-loop
 returns-2 c = λ h. absurd (omega arith)
 
-pub write-bytes-spec : {M : Type 1} → statement M
-write-bytes-spec =
+pub copy-bytes-spec : {M : Type 1} → statement M
+copy-bytes-spec =
     tie.close
     (tie.spec
     Inv-loop

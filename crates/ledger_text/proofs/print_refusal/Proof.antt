@@ -3,8 +3,8 @@
 use mathlib.Core.Path.{sym}
 use lib.Seq.{length-take-le}
 use borrow.Author.Needs.{needs}
-use Rattle.sat_ledger.proofs.print_refusal.Statement.{statement}
-use Rattle.sat_ledger.proofs.print_refusal.Tie as tie
+use Rattle.ledger_text.proofs.print_refusal.Statement.{statement}
+use Rattle.ledger_text.proofs.print_refusal.Tie as tie
 
 slice-aggregate-refusal-line : tie.Need-slice-aggregate-refusal-line
 slice-aggregate-refusal-line c = search needs
