@@ -3,4 +3,3 @@ pub mod Lent
 pub mod Local
 pub mod Methods
 pub mod Reading
-pub mod Fields

@@ -3,11 +3,9 @@ ghost use mathlib.Core.Path.{_≡_};
 ghost use Prim.Native.Nat.{_+_, _-_, _*_, _≤_};
 ghost use lib.ListN.{length};
 ghost use Rattle.bits.specs.Read.{Place, Room};
-ghost use Rattle.bit_reader.specs.Readers.{startOf, moved, reads, readsSigned, placeAfter, placeAfterSigned, clockOf, clockAt};
+ghost use Rattle.bit_reader.specs.Readers.{startOf, moved, reads, readsSigned, placeAfter, placeAfterSigned};
 use bits::Bits;
 use bits::SignedBits;
-use bits::refusal_of;
-use format::Refusal;
 
 pub struct BitReader<'a> {
     pub data: &'a [u8],
@@ -79,57 +77,4 @@ impl<'a> BitReader<'a> {
         self.bit_pos = place_after_signed(r, at);
         r
     }
-}
-
-// What reading a clock finds: its three numbers and the place behind them, or why it is refused.
-pub enum ClockBits {
-    Read {
-        base: u64,
-        reserved: u64,
-        ext: u64,
-        next: usize,
-    },
-    Refused(Refusal),
-}
-
-// A clock of what reading its fields found; the first field that was refused refuses it.
-fn clock_of(base: Bits, reserved: Bits, ext: Bits) -> ClockBits
-    ensures { λ r. ⌜ r ≡ clockOf base reserved ext ⌝ }
-{
-    let Bits::Value {
-        value: base,
-        next: _,
-    } = base
-    else {
-        return ClockBits::Refused(refusal_of(base));
-    };
-    let Bits::Value {
-        value: reserved,
-        next: _,
-    } = reserved
-    else {
-        return ClockBits::Refused(refusal_of(reserved));
-    };
-    let Bits::Value { value: ext, next } = ext else {
-        return ClockBits::Refused(refusal_of(ext));
-    };
-    ClockBits::Read {
-        base,
-        reserved,
-        ext,
-        next,
-    }
-}
-
-// Reads a clock by a reader of its own; refused with number 1 at the first of its fields that goes on behind the end.
-pub fn read_clock(data: &[u8], at: usize) -> ClockBits
-    requires { ⌜ Place (now «data») at ⌝ }
-    ensures { λ r. ⌜ r ≡ clockAt (now («data» .entry)) at ⌝ }
-{
-    let mut reader = BitReader::new(data);
-    reader.skip(at);
-    let base = reader.read_u(33);
-    let reserved = reader.read_u(6);
-    let ext = reader.read_u(9);
-    clock_of(base, reserved, ext)
 }

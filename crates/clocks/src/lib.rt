@@ -1,9 +1,10 @@
 // A clock: 48 bits, of which 33 are its base and 9 its extension. A stamp: 56 bits, a year, a day and a part of a day.
 ghost use mathlib.Core.Path.{_≡_};
+ghost use Prim.Native.Nat.{_^_, _<_};
 ghost use Rattle.bits.specs.Read.{Place, Room};
-ghost use Rattle.clocks.specs.Clocks.{clockAt, clockOf, stampOf, refusalOf};
+ghost use Rattle.clocks.specs.Clocks.{numberOf, clockFrom, clockAt, clockOf, stampOf, refusalOf};
+use bit_reader::BitReader;
 use bits::Bits;
-use bits::read_u;
 use bits::refusal_of;
 use bits::value_at;
 use format::Refusal;
@@ -41,26 +42,27 @@ pub fn clock_refusal(r: ClockAnswer) -> Refusal
     }
 }
 
-// Reads a clock; refused with number 1 at the first of its fields that goes on behind the end.
-pub fn read_clock(s: &[u8], at: usize) -> ClockAnswer
-    requires { ⌜ Place (now s) at ⌝ }
-    ensures { λ r. ⌜ r ≡ clockAt (now (s .entry)) at ⌝ }
+// A clock of what reading its fields found; the first field that was refused refuses it.
+fn clock_of(base: Bits, reserved: Bits, ext: Bits) -> ClockAnswer
+    requires { ⌜ (numberOf reserved < 2 ^ 6) × (numberOf ext < 2 ^ 9) ⌝ }
+    ensures { λ r. ⌜ r ≡ clockFrom base reserved ext ⌝ }
 {
-    let r = read_u(s, at, 33);
-    let Bits::Value { value: base, next } = r else {
-        return ClockAnswer::Refused(refusal_of(r));
+    let Bits::Value {
+        value: base,
+        next: _,
+    } = base
+    else {
+        return ClockAnswer::Refused(refusal_of(base));
     };
-    let r = read_u(s, next, 6);
     let Bits::Value {
         value: reserved,
-        next,
-    } = r
+        next: _,
+    } = reserved
     else {
-        return ClockAnswer::Refused(refusal_of(r));
+        return ClockAnswer::Refused(refusal_of(reserved));
     };
-    let r = read_u(s, next, 9);
-    let Bits::Value { value: ext, next } = r else {
-        return ClockAnswer::Refused(refusal_of(r));
+    let Bits::Value { value: ext, next } = ext else {
+        return ClockAnswer::Refused(refusal_of(ext));
     };
     ClockAnswer::Read {
         clock: Clock {
@@ -70,6 +72,19 @@ pub fn read_clock(s: &[u8], at: usize) -> ClockAnswer
         },
         next,
     }
+}
+
+// Reads a clock by a reader of its own; refused with number 1 at the first of its fields that goes on behind the end.
+pub fn read_clock(s: &[u8], at: usize) -> ClockAnswer
+    requires { ⌜ Place (now s) at ⌝ }
+    ensures { λ r. ⌜ r ≡ clockAt (now (s .entry)) at ⌝ }
+{
+    let mut reader = BitReader::new(s);
+    reader.skip(at);
+    let base = reader.read_u(33);
+    let reserved = reader.read_u(6);
+    let ext = reader.read_u(9);
+    clock_of(base, reserved, ext)
 }
 
 // The clock at a place where all of it is there.

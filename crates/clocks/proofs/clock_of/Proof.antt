@@ -1,35 +1,47 @@
 -- A clock of what reading its fields found, by the first field that was refused.
 -- Assumes nothing.
-use Prim.Native.Nat.{ℕ}
-use mathlib.Core.Path.{_≡_}
+use Prim.Native.Nat.{ℕ, _^_, _<_}
+use mathlib.Core.Path.{_≡_, subst}
+use native.Mathlib.Nat.{lt-of-lt-of-le}
+use lib.Dec.{T as Holds, leb, leb→le}
+use lib.Pow.{pow-mono}
+use mir.Syntax.{Width}
+use mir.Val.{Fits, bits}
 use Rattle.format.specs.declared.Refusal.{Refusal}
 use Rattle.bits.specs.Read.{refusalOf}
 use Rattle.bits.specs.declared.Bits.{Bits}
 use Rattle.bits.specs.declared.Bits.the-variants as unsigned
-use Rattle.bit_reader.specs.Readers.{clockOf}
-use Rattle.bit_reader.specs.declared.ClockBits.the-variants.{Read, Refused}
+use Rattle.clocks.specs.Clocks.{numberOf, clockFrom}
+use Rattle.clocks.specs.declared.ClockAnswer.the-variants.{Read, Refused}
 use borrow.Author.Needs.{needs}
-use Rattle.bit_reader.proofs.clock_of.Statement.{statement}
-use Rattle.bit_reader.proofs.clock_of.Tie as tie
+use Rattle.clocks.proofs.clock_of.Statement.{statement}
+use Rattle.clocks.proofs.clock_of.Tie as tie
 
 -- the four cases
 module _ {g : Refusal} (x y z : Bits) where
-  first : {f : Refusal} → x ≡ unsigned.Refused f → g ≡ refusalOf x → Refused g ≡ clockOf x y z
-  unfolding clockOf refusalOf
+  first : {f : Refusal} → x ≡ unsigned.Refused f → g ≡ refusalOf x → Refused g ≡ clockFrom x y z
+  unfolding clockFrom refusalOf
   first p e = rw (e, p)
 
-  second : {b n : ℕ} {f : Refusal} → x ≡ unsigned.Value b n → y ≡ unsigned.Refused f → g ≡ refusalOf y → Refused g ≡ clockOf x y z
-  unfolding clockOf refusalOf
+  second : {b n : ℕ} {f : Refusal} → x ≡ unsigned.Value b n → y ≡ unsigned.Refused f → g ≡ refusalOf y → Refused g ≡ clockFrom x y z
+  unfolding clockFrom refusalOf
   second p q e = rw (e, p, q)
 
   third : {b n c m : ℕ} {f : Refusal} → x ≡ unsigned.Value b n → y ≡ unsigned.Value c m → z ≡ unsigned.Refused f → g ≡ refusalOf z
-      → Refused g ≡ clockOf x y z
-  unfolding clockOf refusalOf
+      → Refused g ≡ clockFrom x y z
+  unfolding clockFrom refusalOf
   third p q r e = rw (e, p, q, r)
 
-whole : {b n c m e k : ℕ} (x y z : Bits) → x ≡ unsigned.Value b n → y ≡ unsigned.Value c m → z ≡ unsigned.Value e k → Read b c e k ≡ clockOf x y z
-unfolding clockOf
+whole : {b n c m e k : ℕ} (x y z : Bits) → x ≡ unsigned.Value b n → y ≡ unsigned.Value c m → z ≡ unsigned.Value e k → Read (record { base = b; reserved = c; ext = e }) k ≡ clockFrom x y z
+unfolding clockFrom
 whole x y z p q r = rw (p, q, r)
+
+-- a number below 2 ^ w fits a type at least as wide
+fits : {v n : ℕ} {t : Width} (r : Bits) (w : ℕ) → r ≡ unsigned.Value v n → numberOf r < 2 ^ w → Holds (leb w (bits t)) → Fits t v
+unfolding numberOf
+fits {v} {n} {t} r w e h le =
+    let small : v < 2 ^ w = subst (λ (x : Bits). numberOf x < 2 ^ w) e h in
+    record { fits = lt-of-lt-of-le small (pow-mono (leb→le w (bits t) le)) }
 
 ruleset cases = (first, second, third, whole)
 
@@ -69,6 +81,12 @@ refusal-of-requires-3 c κs = search needs
 returns-3 : tie.Need-returns-3
 returns-3 c = search cases
 
+cast-t11 : tie.Need-cast-t11
+cast-t11 c = search fits
+
+cast-t12 : tie.Need-cast-t12
+cast-t12 c = search fits
+
 returns-4 : tie.Need-returns-4
 returns-4 c = search cases
 
@@ -88,4 +106,6 @@ clock-of-spec =
     enum-told-3
     refusal-of-requires-3
     returns-3
+    cast-t11
+    cast-t12
     returns-4)
