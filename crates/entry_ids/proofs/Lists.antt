@@ -13,7 +13,7 @@ use lib.ListN.{length, take, drop, getD, set, length-set}
 use lib.Seq.{take-suc, take-suc-set, length-take-le, split-at, paste, paste-suc}
 use borrow.Author.Tests.{eqb-true, eqb-false, eq-eqb, ne-eqb}
 use Rattle.format.specs.Digits.{splice}
-use Rattle.format.specs.Added.{NoneTwice, Roll}
+use Rattle.format.specs.Added.{NoneTwice, Distinct}
 use Rattle.entry_ids.specs.Ids.{isIn, join, joinAll, Joined}
 
 -- ---- the test
@@ -138,9 +138,9 @@ module _ (y : ℕ) where
       go (inr q) = first (join-only l x y q)
 
 -- each different one once and nothing else
-pub each-once : (xs : List ℕ) → Roll xs (joinAll [] xs)
+pub each-once : (xs : List ℕ) → Distinct xs (joinAll [] xs)
 each-once xs = record {
-  once = once-all xs [] tt;
+  none-twice = once-all xs [] tt;
   same = λ y. (λ m. ⊎-elim (λ q. q) (λ q. absurd (List·Memᴰ·not-nil q)) (all-only y xs [] m), λ m. all-new y xs [] m);
 }
 

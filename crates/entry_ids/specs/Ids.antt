@@ -11,7 +11,7 @@ use Rattle.format.specs.Refusals.{refuse}
 use Rattle.format.specs.Syntax.{Field, Parse, got, refused, andThen}
 use Rattle.format.specs.Whole.{Table, bodyRead}
 use Rattle.format.specs.ByName.{the}
-use Rattle.format.specs.Added.{idName, entryIds, Roll}
+use Rattle.format.specs.Added.{idName, entryIds, Distinct}
 use Rattle.entry_ids.specs.declared.IdsAnswer.{IdsAnswer}
 use Rattle.entry_ids.specs.declared.IdsAnswer.the-variants.{Ids, Refused}
 
@@ -21,7 +21,7 @@ use Rattle.entry_ids.specs.declared.IdsAnswer.the-variants.{Ids, Refused
 -- or refusal 22 where the buffer is shorter. Of any other body: its refusal. Where it is refused, the buffer is as it was.
 abbrev pub IdsIn : ℕ → Parse Table → List ℕ → IdsAnswer → List ℕ → Type 0
 IdsIn id (got t rest) out r out′ =
-    (l : List ℕ) × Roll (entryIds id t) l × (r ≡ cond (leb (length l) (length out)) (Ids (length l)) (Refused (refuse 22 (length l) (length out))))
+    (l : List ℕ) × Distinct (entryIds id t) l × (r ≡ cond (leb (length l) (length out)) (Ids (length l)) (Refused (refuse 22 (length l) (length out))))
     × (out′ ≡ cond (leb (length l) (length out)) (splice out 0 l) out)
 IdsIn id (refused number needed had) out r out′ = (r ≡ Refused (refuse number needed had)) × (out′ ≡ out)
 

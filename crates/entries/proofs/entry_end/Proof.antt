@@ -28,7 +28,10 @@ satellite-v3-end-requires : tie.Need-satellite-v3-end-requires
 satellite-v3-end-requires c κs = search needs
 
 returns-4 : tie.Need-returns-4
-returns-4 c = let z : c .before .before .before .before .before .args .table-id ≡ 4 = list-four (c .before .before .before .before .before .args .table-id) (c .before .before .before .before .before .pre .1) (c .before .before .before .if1 .left) (c .before .before .if2 .left) (c .before .if3 .left) in rw z (c .satellite-v3-end .ensures)
+returns-4 c =
+    let a = c .before .before .before .before .before .args in
+    let z : a .table-id ≡ 4 = list-four (a .table-id) (c .before .before .before .before .before .pre .1) (c .before .before .before .if1 .left)
+    (c .before .before .if2 .left) (c .before .if3 .left) in rw z (c .satellite-v3-end .ensures)
 
 pub entry-end-spec : {M : Type 1} → statement M
 entry-end-spec =

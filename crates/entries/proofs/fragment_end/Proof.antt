@@ -27,11 +27,15 @@ enum-known-r-2 c = search needs
 
 returns : tie.Need-returns
 unfolding after fragmentAt
-returns c = ends _ fragment _ (λ ts q. Entry (fragmentOf (c .before .before .before .before .before .args .at) ts) q) Refused after (λ ts q. refl) (λ f. refl) (c .before .before .before .read-fragment .ensures) (c .before .r .given .1) refl
+returns c =
+    ends _ fragment _ (λ ts q. Entry (fragmentOf (c .before .before .before .before .before .args .at) ts) q) Refused after (λ ts q. refl) (λ f. refl)
+    (c .before .before .before .read-fragment .ensures) (c .before .r .given .1) refl
 
 returns-2 : tie.Need-returns-2
 unfolding after fragmentAt
-returns-2 c = ends _ fragment _ (λ ts q. Entry (fragmentOf (c .before .before .before .before .before .args .at) ts) q) Refused after (λ ts q. refl) (λ f. refl) (c .before .before .before .read-fragment .ensures) (c .before .r2 .given .1) refl
+returns-2 c =
+    ends _ fragment _ (λ ts q. Entry (fragmentOf (c .before .before .before .before .before .args .at) ts) q) Refused after (λ ts q. refl) (λ f. refl)
+    (c .before .before .before .read-fragment .ensures) (c .before .r2 .given .1) refl
 
 pub fragment-end-spec : {M : Type 1} → statement M
 fragment-end-spec =

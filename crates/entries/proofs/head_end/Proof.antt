@@ -26,14 +26,22 @@ enum-known-r c = search needs
 
 returns : tie.Need-returns
 unfolding after headerAt
-returns c = let z : c .before .before .before .before .before .before .args .table-id ≡ 4 = c .before .before .before .before .if1 .taken in rw z (ends _ header _ (λ ts q. Header (headerOf ts) q) Refused after (λ ts q. refl) (λ f. refl) (c .before .before .before .read-header .ensures) (c .before .r .given .1) refl)
+returns c =
+    let a = c .before .before .before .before .before .before .args in
+    let z : a .table-id ≡ 4 = c .before .before .before .before .if1 .taken in rw z
+    (ends _ header _ (λ ts q. Header (headerOf ts) q) Refused after (λ ts q. refl) (λ f. refl)
+    (c .before .before .before .read-header .ensures) (c .before .r .given .1) refl)
 
 enum-known-r-2 : tie.Need-enum-known-r-2
 enum-known-r-2 c = search needs
 
 returns-2 : tie.Need-returns-2
 unfolding after headerAt
-returns-2 c = let z : c .before .before .before .before .before .before .args .table-id ≡ 4 = c .before .before .before .before .if1 .taken in rw z (ends _ header _ (λ ts q. Header (headerOf ts) q) Refused after (λ ts q. refl) (λ f. refl) (c .before .before .before .read-header .ensures) (c .before .r2 .given .1) refl)
+returns-2 c =
+    let a = c .before .before .before .before .before .before .args in
+    let z : a .table-id ≡ 4 = c .before .before .before .before .if1 .taken in rw z
+    (ends _ header _ (λ ts q. Header (headerOf ts) q) Refused after (λ ts q. refl) (λ f. refl)
+    (c .before .before .before .read-header .ensures) (c .before .r2 .given .1) refl)
 
 returns-3 : tie.Need-returns-3
 returns-3 c = no-header _ (c .before .before .args .table-id) (c .before .before .pre .1) (c .if1 .left)

@@ -27,11 +27,17 @@ enum-known-r-2 c = search needs
 
 returns : tie.Need-returns
 unfolding after planAt
-returns c = ends _ beamhopping _ (λ ts q. Entry (planOf (c .before .before .before .before .before .args .s .now) (c .before .before .before .before .before .args .at) ts) q) Refused after (λ ts q. refl) (λ f. refl) (c .before .before .before .read-plan .ensures) (c .before .r .given .1) refl
+returns c =
+    let a = c .before .before .before .before .before .args in
+    ends _ beamhopping _ (λ ts q. Entry (planOf (a .s .now) (a .at) ts) q) Refused after (λ ts q. refl) (λ f. refl)
+    (c .before .before .before .read-plan .ensures) (c .before .r .given .1) refl
 
 returns-2 : tie.Need-returns-2
 unfolding after planAt
-returns-2 c = ends _ beamhopping _ (λ ts q. Entry (planOf (c .before .before .before .before .before .args .s .now) (c .before .before .before .before .before .args .at) ts) q) Refused after (λ ts q. refl) (λ f. refl) (c .before .before .before .read-plan .ensures) (c .before .r2 .given .1) refl
+returns-2 c =
+    let a = c .before .before .before .before .before .args in
+    ends _ beamhopping _ (λ ts q. Entry (planOf (a .s .now) (a .at) ts) q) Refused after (λ ts q. refl) (λ f. refl)
+    (c .before .before .before .read-plan .ensures) (c .before .r2 .given .1) refl
 
 pub plan-end-spec : {M : Type 1} → statement M
 plan-end-spec =

@@ -27,11 +27,15 @@ enum-known-r-2 c = search needs
 
 returns : tie.Need-returns
 unfolding after satelliteAt
-returns c = ends _ position _ (λ ts q. Entry (satelliteOf ts) q) Refused after (λ ts q. refl) (λ f. refl) (c .before .before .before .read-satellite .ensures) (c .before .r .given .1) refl
+returns c =
+    ends _ position _ (λ ts q. Entry (satelliteOf ts) q) Refused after (λ ts q. refl) (λ f. refl) (c .before .before .before .read-satellite .ensures)
+    (c .before .r .given .1) refl
 
 returns-2 : tie.Need-returns-2
 unfolding after satelliteAt
-returns-2 c = ends _ position _ (λ ts q. Entry (satelliteOf ts) q) Refused after (λ ts q. refl) (λ f. refl) (c .before .before .before .read-satellite .ensures) (c .before .r2 .given .1) refl
+returns-2 c =
+    ends _ position _ (λ ts q. Entry (satelliteOf ts) q) Refused after (λ ts q. refl) (λ f. refl) (c .before .before .before .read-satellite .ensures)
+    (c .before .r2 .given .1) refl
 
 pub satellite-end-spec : {M : Type 1} → statement M
 satellite-end-spec =

@@ -28,11 +28,15 @@ enum-known-r-2 c = search needs
 
 returns : tie.Need-returns
 unfolding after satelliteV3At
-returns c = ends _ position3 _ (λ ts q. Entry (satelliteV3Of (c .before .before .before .before .before .args .at) ts) q) Refused after (λ ts q. refl) (λ f. refl) (ap (λ (v : PositionV3Read). v .answer) (c .before .before .before .read-satellite-v3 .ensures)) (c .before .r .given .1) refl
+returns c =
+    ends _ position3 _ (λ ts q. Entry (satelliteV3Of (c .before .before .before .before .before .args .at) ts) q) Refused after (λ ts q. refl)
+    (λ f. refl) (ap (λ (v : PositionV3Read). v .answer) (c .before .before .before .read-satellite-v3 .ensures)) (c .before .r .given .1) refl
 
 returns-2 : tie.Need-returns-2
 unfolding after satelliteV3At
-returns-2 c = ends _ position3 _ (λ ts q. Entry (satelliteV3Of (c .before .before .before .before .before .args .at) ts) q) Refused after (λ ts q. refl) (λ f. refl) (ap (λ (v : PositionV3Read). v .answer) (c .before .before .before .read-satellite-v3 .ensures)) (c .before .r2 .given .1) refl
+returns-2 c =
+    ends _ position3 _ (λ ts q. Entry (satelliteV3Of (c .before .before .before .before .before .args .at) ts) q) Refused after (λ ts q. refl)
+    (λ f. refl) (ap (λ (v : PositionV3Read). v .answer) (c .before .before .before .read-satellite-v3 .ensures)) (c .before .r2 .given .1) refl
 
 pub satellite-v3-end-spec : {M : Type 1} → statement M
 satellite-v3-end-spec =

@@ -27,13 +27,19 @@ least-bits-requires : tie.Need-least-bits-requires Inv-loop μ-loop
 least-bits-requires c κs = search needs
 
 loop-holds : tie.Need-loop-holds Inv-loop μ-loop
-loop-holds c = λ l. laws.kept-first (leastBits ((c .before .before .args .table-id))) (entrySyntax ((c .before .before .args .table-id))) (fine-entry ((c .before .before .args .table-id)) l) (least-entry ((c .before .before .args .table-id)) l) (byte-entry ((c .before .before .args .table-id)) l) ((c .before .before .args .s .now)) (c .before .before .args .start) (c .before .before .args .index) (c .before .before .pre .0 .1) (c .before .before .pre .0 .2)
+loop-holds c =
+    λ l. laws.kept-first (leastBits ((c .before .before .args .table-id))) (entrySyntax ((c .before .before .args .table-id)))
+    (fine-entry ((c .before .before .args .table-id)) l) (least-entry ((c .before .before .args .table-id)) l)
+    (byte-entry ((c .before .before .args .table-id)) l) ((c .before .before .args .s .now)) (c .before .before .args .start)
+    (c .before .before .args .index) (c .before .before .pre .0 .1) (c .before .before .pre .0 .2)
 
 sub-loop : tie.Need-sub-loop Inv-loop μ-loop
 sub-loop c = omega (arith, c .loop .inv ((c .before .before .before .pre .1)) .within)
 
 entry-end-requires : tie.Need-entry-end-requires Inv-loop μ-loop
-entry-end-requires c κs = ((record { short = omega (arith, c .before .before .before .before .pre .0); within = c .before .loop .inv ((c .before .before .before .before .pre .1)) .within }, c .before .loop .inv ((c .before .before .before .before .pre .1)) .byte), ((c .before .before .before .before .pre .1)))
+entry-end-requires c κs =
+    let pre = c .before .before .before .before .pre in
+    ((record { short = omega (arith, pre .0); within = c .before .loop .inv ((pre .1)) .within }, c .before .loop .inv ((pre .1)) .byte), ((pre .1)))
 
 enum-known-end : tie.Need-enum-known-end Inv-loop μ-loop
 enum-known-end c = search needs
@@ -45,19 +51,71 @@ end-refusal-requires : tie.Need-end-refusal-requires Inv-loop μ-loop
 end-refusal-requires c κs = search needs
 
 returns : tie.Need-returns Inv-loop μ-loop
-returns c = (laws.seek-stop (leastBits ((c .before .before .before .before .before .before .before .before .args .table-id))) (entrySyntax ((c .before .before .before .before .before .before .before .before .args .table-id))) (fine-entry ((c .before .before .before .before .before .before .before .before .args .table-id)) ((c .before .before .before .before .before .before .before .before .pre .1))) (least-entry ((c .before .before .before .before .before .before .before .before .args .table-id)) ((c .before .before .before .before .before .before .before .before .pre .1))) (byte-entry ((c .before .before .before .before .before .before .before .before .args .table-id)) ((c .before .before .before .before .before .before .before .before .pre .1))) ((c .before .before .before .before .before .before .before .before .args .s .now)) (c .before .before .before .before .before .before .before .before .args .start) (c .before .before .before .before .before .before .before .before .args .index) (c .before .before .before .before .before .loop .at) (c .before .before .before .before .before .loop .count) (c .before .before .before .before .before .loop .place) (c .before .before .before .before .before .loop .inv ((c .before .before .before .before .before .before .before .before .pre .1))) Entries Refused _ (omega (arith, c .before .before .before .before .before .before .least-bits .ensures)) (sym (c .before .before .before .entry-end .ensures) ∙ told (c .before .enum-told .given .1) (c .end-refusal .ensures)), record { to = tt })
+returns c =
+    let a = c .before .before .before .before .before .before .before .before .args in
+    let least-bits = c .before .before .before .before .before .before .least-bits in
+    let l = c .before .before .before .before .before .loop in
+    let pre = c .before .before .before .before .before .before .before .before .pre in (
+      laws.seek-stop (leastBits ((a .table-id))) (entrySyntax ((a .table-id))) (fine-entry ((a .table-id)) ((pre .1)))
+          (least-entry ((a .table-id)) ((pre .1))) (byte-entry ((a .table-id)) ((pre .1))) ((a .s .now)) (a .start) (a .index) (l .at) (l .count)
+          (l .place) (l .inv ((pre .1))) Entries Refused _ (omega (arith, least-bits .ensures))
+          (sym (c .before .before .before .entry-end .ensures) ∙ told (c .before .enum-told .given .1) (c .end-refusal .ensures)),
+      record { to = tt },
+    )
 
 add-count : tie.Need-add-count Inv-loop μ-loop
-add-count c = omega (arith, c .before .before .before .before .before .before .loop .inv ((c .before .before .before .before .before .before .before .before .before .pre .1)) .few, c .before .before .before .before .before .before .loop .inv ((c .before .before .before .before .before .before .before .before .before .pre .1)) .within, c .before .before .before .before .before .before .before .before .before .pre .0)
+add-count c =
+    let l = c .before .before .before .before .before .before .loop in
+    let pre = c .before .before .before .before .before .before .before .before .before .pre in
+    omega (arith, l .inv ((pre .1)) .few, l .inv ((pre .1)) .within, pre .0)
 
 loop-less : tie.Need-loop-less Inv-loop μ-loop
-loop-less c = laws.kept-less (leastBits ((c .before .before .before .before .before .before .before .before .before .args .table-id))) (entrySyntax ((c .before .before .before .before .before .before .before .before .before .args .table-id))) (fine-entry ((c .before .before .before .before .before .before .before .before .before .args .table-id)) ((c .before .before .before .before .before .before .before .before .before .pre .1))) (least-entry ((c .before .before .before .before .before .before .before .before .before .args .table-id)) ((c .before .before .before .before .before .before .before .before .before .pre .1))) (byte-entry ((c .before .before .before .before .before .before .before .before .before .args .table-id)) ((c .before .before .before .before .before .before .before .before .before .pre .1))) ((c .before .before .before .before .before .before .before .before .before .args .s .now)) (c .before .before .before .before .before .before .before .before .before .args .start) (c .before .before .before .before .before .before .before .before .before .args .index) (c .before .before .before .before .before .before .loop .at) (c .before .before .before .before .before .before .loop .count) (c .before .before .before .before .before .before .loop .place) (c .before .before .before .before .before .before .loop .inv ((c .before .before .before .before .before .before .before .before .before .pre .1))) _ (omega (arith, c .before .before .before .before .before .before .before .least-bits .ensures)) (sym (c .before .before .before .before .entry-end .ensures) ∙ c .before .before .end .given .1)
+loop-less c =
+    let a = c .before .before .before .before .before .before .before .before .before .args in
+    let least-bits = c .before .before .before .before .before .before .before .least-bits in
+    let l = c .before .before .before .before .before .before .loop in
+    let pre = c .before .before .before .before .before .before .before .before .before .pre in
+    laws.kept-less (leastBits ((a .table-id))) (entrySyntax ((a .table-id))) (fine-entry ((a .table-id)) ((pre .1)))
+    (least-entry ((a .table-id)) ((pre .1))) (byte-entry ((a .table-id)) ((pre .1))) ((a .s .now)) (a .start) (a .index) (l .at) (l .count) (l .place)
+    (l .inv ((pre .1))) _ (omega (arith, least-bits .ensures))
+    (sym (c .before .before .before .before .entry-end .ensures) ∙ c .before .before .end .given .1)
 
 loop-again : tie.Need-loop-again Inv-loop μ-loop
-loop-again c = λ l. ⊎-elim (λ w. subst ((laws.Kept (leastBits ((c .before .before .before .before .before .before .before .before .before .args .table-id))) (entrySyntax ((c .before .before .before .before .before .before .before .before .before .args .table-id))) (fine-entry ((c .before .before .before .before .before .before .before .before .before .args .table-id)) l) (least-entry ((c .before .before .before .before .before .before .before .before .before .args .table-id)) l) (byte-entry ((c .before .before .before .before .before .before .before .before .before .args .table-id)) l) ((c .before .before .before .before .before .before .before .before .before .args .s .now)) (c .before .before .before .before .before .before .before .before .before .args .start) (c .before .before .before .before .before .before .before .before .before .args .index) _ _)) (sym (w .1)) (laws.kept-here (leastBits ((c .before .before .before .before .before .before .before .before .before .args .table-id))) (entrySyntax ((c .before .before .before .before .before .before .before .before .before .args .table-id))) (fine-entry ((c .before .before .before .before .before .before .before .before .before .args .table-id)) l) (least-entry ((c .before .before .before .before .before .before .before .before .before .args .table-id)) l) (byte-entry ((c .before .before .before .before .before .before .before .before .before .args .table-id)) l) ((c .before .before .before .before .before .before .before .before .before .args .s .now)) (c .before .before .before .before .before .before .before .before .before .args .start) (c .before .before .before .before .before .before .before .before .before .args .index) (c .before .before .before .before .before .before .loop .at) (c .before .before .before .before .before .before .loop .count) (c .before .before .before .before .before .before .loop .place) (c .before .before .before .before .before .before .loop .inv l) _ (omega (arith, c .before .before .before .before .before .before .before .least-bits .ensures)) ((sym (c .before .before .before .before .entry-end .ensures) ∙ c .before .before .end .given .1)) (w .0 .taken))) (λ w. subst ((laws.Kept (leastBits ((c .before .before .before .before .before .before .before .before .before .args .table-id))) (entrySyntax ((c .before .before .before .before .before .before .before .before .before .args .table-id))) (fine-entry ((c .before .before .before .before .before .before .before .before .before .args .table-id)) l) (least-entry ((c .before .before .before .before .before .before .before .before .before .args .table-id)) l) (byte-entry ((c .before .before .before .before .before .before .before .before .before .args .table-id)) l) ((c .before .before .before .before .before .before .before .before .before .args .s .now)) (c .before .before .before .before .before .before .before .before .before .args .start) (c .before .before .before .before .before .before .before .before .before .args .index) _ _)) (sym (w .1)) (laws.kept-past (leastBits ((c .before .before .before .before .before .before .before .before .before .args .table-id))) (entrySyntax ((c .before .before .before .before .before .before .before .before .before .args .table-id))) (fine-entry ((c .before .before .before .before .before .before .before .before .before .args .table-id)) l) (least-entry ((c .before .before .before .before .before .before .before .before .before .args .table-id)) l) (byte-entry ((c .before .before .before .before .before .before .before .before .before .args .table-id)) l) ((c .before .before .before .before .before .before .before .before .before .args .s .now)) (c .before .before .before .before .before .before .before .before .before .args .start) (c .before .before .before .before .before .before .before .before .before .args .index) (c .before .before .before .before .before .before .loop .at) (c .before .before .before .before .before .before .loop .count) (c .before .before .before .before .before .before .loop .place) (c .before .before .before .before .before .before .loop .inv l) _ (omega (arith, c .before .before .before .before .before .before .before .least-bits .ensures)) ((sym (c .before .before .before .before .entry-end .ensures) ∙ c .before .before .end .given .1)) (w .0 .left))) (c .if1 .came)
+loop-again c =
+    let a = c .before .before .before .before .before .before .before .before .before .args in
+    let entry-end = c .before .before .before .before .entry-end in
+    let least-bits = c .before .before .before .before .before .before .before .least-bits in
+    let l′ = c .before .before .before .before .before .before .loop in
+    λ l. ⊎-elim
+    (λ w. subst
+    ((laws.Kept (leastBits ((a .table-id))) (entrySyntax ((a .table-id))) (fine-entry ((a .table-id)) l)
+    (least-entry ((a .table-id)) l) (byte-entry ((a .table-id)) l) ((a .s .now)) (a .start) (a .index) _ _))
+    (sym (w .1))
+    (laws.kept-here (leastBits ((a .table-id))) (entrySyntax ((a .table-id))) (fine-entry ((a .table-id)) l)
+    (least-entry ((a .table-id)) l) (byte-entry ((a .table-id)) l) ((a .s .now)) (a .start) (a .index) (l′ .at) (l′ .count)
+    (l′ .place) (l′ .inv l) _ (omega (arith, least-bits .ensures)) ((sym (entry-end .ensures) ∙ c .before .before .end .given .1))
+    (w .0 .taken)))
+    (λ w. subst
+    ((laws.Kept (leastBits ((a .table-id))) (entrySyntax ((a .table-id))) (fine-entry ((a .table-id)) l)
+    (least-entry ((a .table-id)) l) (byte-entry ((a .table-id)) l) ((a .s .now)) (a .start) (a .index) _ _))
+    (sym (w .1))
+    (laws.kept-past (leastBits ((a .table-id))) (entrySyntax ((a .table-id))) (fine-entry ((a .table-id)) l)
+    (least-entry ((a .table-id)) l) (byte-entry ((a .table-id)) l) ((a .s .now)) (a .start) (a .index) (l′ .at) (l′ .count)
+    (l′ .place) (l′ .inv l) _ (omega (arith, least-bits .ensures)) ((sym (entry-end .ensures) ∙ c .before .before .end .given .1))
+    (w .0 .left)))
+    (c .if1 .came)
 
 returns-2 : tie.Need-returns-2 Inv-loop μ-loop
-returns-2 c = (laws.seek-over (leastBits ((c .before .before .before .before .args .table-id))) (entrySyntax ((c .before .before .before .before .args .table-id))) (fine-entry ((c .before .before .before .before .args .table-id)) ((c .before .before .before .before .pre .1))) (least-entry ((c .before .before .before .before .args .table-id)) ((c .before .before .before .before .pre .1))) (byte-entry ((c .before .before .before .before .args .table-id)) ((c .before .before .before .before .pre .1))) ((c .before .before .before .before .args .s .now)) (c .before .before .before .before .args .start) (c .before .before .before .before .args .index) (c .before .loop .at) (c .before .loop .count) (c .before .loop .place) (c .before .loop .inv ((c .before .before .before .before .pre .1))) Entries Refused (omega (arith, c .before .before .least-bits .ensures)), record { to = (c .before .before .before .before .pre .0 .0, c .before .loop .inv ((c .before .before .before .before .pre .1)) .sure .0, c .before .loop .inv ((c .before .before .before .before .pre .1)) .sure .1) })
+returns-2 c =
+    let a = c .before .before .before .before .args in
+    let pre = c .before .before .before .before .pre in (
+      laws.seek-over (leastBits ((a .table-id))) (entrySyntax ((a .table-id))) (fine-entry ((a .table-id)) ((pre .1)))
+          (least-entry ((a .table-id)) ((pre .1))) (byte-entry ((a .table-id)) ((pre .1))) ((a .s .now)) (a .start) (a .index) (c .before .loop .at)
+          (c .before .loop .count) (c .before .loop .place) (c .before .loop .inv ((pre .1))) Entries Refused
+          (omega (arith, c .before .before .least-bits .ensures)),
+      record
+          { to = (pre .0 .0, c .before .loop .inv ((pre .1)) .sure .0, c .before .loop .inv ((pre .1)) .sure .1) },
+    )
 
 pub seek-entries-spec : {M : Type 1} → statement M
 seek-entries-spec =

@@ -26,17 +26,40 @@ enum-told c = search needs
 
 returns : tie.Need-returns
 unfolding after associationAt
-returns c = let z : c .before .before .before .before .before .args .table-id ≡ 2 = c .before .before .before .if1 .taken in (λ i. rw z (seek-sole i _ _ _ _ (c .before .before .before .before .before .pre .0) (sym (ends _ association _ (λ ts q. Entry (associationOf ts) q) Refused after (λ ts q. refl) (λ f. refl) (c .before .before .read-association .ensures) (c .enum-told .given .1) refl))), record { to = (c .before .before .before .before .before .pre .0, omega arith, refl) })
+returns c =
+    let pre = c .before .before .before .before .before .pre in
+    let z : c .before .before .before .before .before .args .table-id ≡ 2 = c .before .before .before .if1 .taken in (
+      λ i. rw z
+          (seek-sole i _ _ _ _ (pre .0)
+          (sym
+          (ends _ association _ (λ ts q. Entry (associationOf ts) q) Refused after (λ ts q. refl) (λ f. refl)
+          (c .before .before .read-association .ensures) (c .enum-told .given .1) refl))),
+      record { to = (pre .0, omega arith, refl) },
+    )
 
 enum-known-r : tie.Need-enum-known-r
 enum-known-r c = search needs
 
 returns-2 : tie.Need-returns-2
 unfolding after associationAt
-returns-2 c = let z : c .before .before .before .before .before .before .args .table-id ≡ 2 = c .before .before .before .before .if1 .taken in (λ i. rw z (seek-not i _ _ _ _ (c .before .before .before .before .before .before .pre .0) (sym (ends _ association _ (λ ts q. Entry (associationOf ts) q) Refused after (λ ts q. refl) (λ f. refl) (c .before .before .before .read-association .ensures) (c .before .r .given .1) refl))), record { to = tt })
+returns-2 c =
+    let a = c .before .before .before .before .before .before .args in
+    let pre = c .before .before .before .before .before .before .pre in
+    let z : a .table-id ≡ 2 = c .before .before .before .before .if1 .taken in (
+      λ i. rw z
+          (seek-not i _ _ _ _ (pre .0)
+          (sym
+          (ends _ association _ (λ ts q. Entry (associationOf ts) q) Refused after (λ ts q. refl) (λ f. refl)
+          (c .before .before .before .read-association .ensures) (c .before .r .given .1) refl))),
+      record { to = tt },
+    )
 
 returns-3 : tie.Need-returns-3
-returns-3 c = (λ i. seek-raw i _ _ _ (c .before .before .args .table-id) (c .before .before .pre .0) (c .before .before .pre .1) (c .if1 .left), record { to = (c .before .before .pre .0, omega arith, refl) })
+returns-3 c = (
+  λ i. seek-raw i _ _ _ (c .before .before .args .table-id) (c .before .before .pre .0) (c .before .before .pre .1) (c .if1 .left),
+  record
+      { to = (c .before .before .pre .0, omega arith, refl) },
+)
 
 pub sole-entry-spec : {M : Type 1} → statement M
 sole-entry-spec =

@@ -29,7 +29,11 @@ two (suc (suc (suc (suc zero)))) h l = absurd (omega arith)
 two (suc (suc (suc (suc (suc i))))) h l = l
 
 returns : tie.Need-returns
-returns c = (seek-over (c .before .before .args .index) Entries Refused (c .before .before .args .s .now) (c .before .before .args .table-id) (c .if1 .taken), record { to = tt })
+returns c = (
+  seek-over (c .before .before .args .index) Entries Refused (c .before .before .args .s .now) (c .before .before .args .table-id)
+      (c .if1 .taken),
+  record { to = tt },
+)
 
 sole-entry-requires : tie.Need-sole-entry-requires
 sole-entry-requires c κs = (c .before .if1 .left, two (c .before .before .before .args .table-id) (c .if2 .taken))
@@ -44,7 +48,8 @@ returns-3 : tie.Need-returns-3
 returns-3 c = (c .sole-entry2 .ensures .0 (c .before .before .before .before .before .args .index), c .sole-entry2 .ensures .1)
 
 head-end-requires : tie.Need-head-end-requires
-head-end-requires c κs = (c .before .before .if1 .left, (is-list (c .before .before .before .before .args .table-id) (c .if3 .left) (c .before .if2 .left)))
+head-end-requires c κs =
+    (c .before .before .if1 .left, (is-list (c .before .before .before .before .args .table-id) (c .if3 .left) (c .before .if2 .left)))
 
 enum-known-head : tie.Need-enum-known-head
 enum-known-head c = search needs
@@ -56,13 +61,42 @@ end-refusal-requires : tie.Need-end-refusal-requires
 end-refusal-requires c κs = search needs
 
 returns-4 : tie.Need-returns-4
-returns-4 c = (seek-unheaded (c .before .before .before .before .before .before .before .before .args .index) Entries Refused (c .before .before .before .before .before .before .before .before .args .s .now) (c .before .before .before .before .before .before .before .before .args .table-id) (c .before .before .before .before .before .before .if1 .left) ((is-list (c .before .before .before .before .before .before .before .before .args .table-id) (c .before .before .before .before .if3 .left) (c .before .before .before .before .before .if2 .left))) (c .before .before .before .head-end .ensures) (c .before .enum-told .given .1) (c .end-refusal .ensures), record { to = tt })
+returns-4 c =
+    let a = c .before .before .before .before .before .before .before .before .args in
+    let if1 = c .before .before .before .before .before .before .if1 in (
+      seek-unheaded (a .index) Entries Refused (a .s .now) (a .table-id) (if1 .left)
+          ((is-list (a .table-id) (c .before .before .before .before .if3 .left) (c .before .before .before .before .before .if2 .left)))
+          (c .before .before .before .head-end .ensures) (c .before .enum-told .given .1) (c .end-refusal .ensures),
+      record { to = tt },
+    )
 
 seek-entries-requires : tie.Need-seek-entries-requires
-seek-entries-requires c κs = ((c .before .before .before .before .before .before .if1 .left, ((headed (c .before .before .before .before .before .before .before .before .args .s .now) (c .before .before .before .before .before .before .before .before .args .table-id) _ ((is-list (c .before .before .before .before .before .before .before .before .args .table-id) (c .before .before .before .before .if3 .left) (c .before .before .before .before .before .if2 .left))) ((sym (c .before .before .before .head-end .ensures) ∙ c .before .head .given .1)))) .within, ((headed (c .before .before .before .before .before .before .before .before .args .s .now) (c .before .before .before .before .before .before .before .before .args .table-id) _ ((is-list (c .before .before .before .before .before .before .before .before .args .table-id) (c .before .before .before .before .if3 .left) (c .before .before .before .before .before .if2 .left))) ((sym (c .before .before .before .head-end .ensures) ∙ c .before .head .given .1)))) .byte), (is-list (c .before .before .before .before .before .before .before .before .args .table-id) (c .before .before .before .before .if3 .left) (c .before .before .before .before .before .if2 .left)))
+seek-entries-requires c κs =
+    let a = c .before .before .before .before .before .before .before .before .args in
+    let head-end = c .before .before .before .head-end in
+    let if1 = c .before .before .before .before .before .before .if1 in
+    let if2 = c .before .before .before .before .before .if2 in
+    let if3 = c .before .before .before .before .if3 in (
+      (
+        if1 .left,
+        ((headed (a .s .now) (a .table-id) _ ((is-list (a .table-id) (if3 .left) (if2 .left)))
+            ((sym (head-end .ensures) ∙ c .before .head .given .1)))) .within,
+        ((headed (a .s .now) (a .table-id) _ ((is-list (a .table-id) (if3 .left) (if2 .left)))
+            ((sym (head-end .ensures) ∙ c .before .head .given .1)))) .byte,
+      ),
+      (is-list (a .table-id) (if3 .left) (if2 .left)),
+    )
 
 returns-5 : tie.Need-returns-5
-returns-5 c = (seek-list (c .before .before .before .before .before .before .before .before .before .args .index) Entries Refused (c .before .before .before .before .before .before .before .before .before .args .s .now) (c .before .before .before .before .before .before .before .before .before .args .table-id) _ (c .before .before .before .before .before .before .before .if1 .left) ((is-list (c .before .before .before .before .before .before .before .before .before .args .table-id) (c .before .before .before .before .before .if3 .left) (c .before .before .before .before .before .before .if2 .left))) ((sym (c .before .before .before .before .head-end .ensures) ∙ c .before .before .head .given .1)) (c .seek-entries .ensures .0), c .seek-entries .ensures .1)
+returns-5 c =
+    let a = c .before .before .before .before .before .before .before .before .before .args in
+    let if1 = c .before .before .before .before .before .before .before .if1 in
+    let if2 = c .before .before .before .before .before .before .if2 in (
+      seek-list (a .index) Entries Refused (a .s .now) (a .table-id) _ (if1 .left)
+          ((is-list (a .table-id) (c .before .before .before .before .before .if3 .left) (if2 .left)))
+          ((sym (c .before .before .before .before .head-end .ensures) ∙ c .before .before .head .given .1)) (c .seek-entries .ensures .0),
+      c .seek-entries .ensures .1,
+    )
 
 pub walk-body-spec : {M : Type 1} → statement M
 walk-body-spec =

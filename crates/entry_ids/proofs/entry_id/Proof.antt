@@ -43,7 +43,11 @@ cast-result-3 : tie.Need-cast-result-3
 cast-result-3 c = value-fits _ _ 24 (c .value-at3 .ensures) tt
 
 returns-3 : tie.Need-returns-3
-returns-3 c = rw (others (c .before .before .before .before .args .table-id) (c .before .before .before .before .pre .1) (c .before .before .if1 .left) (c .before .if2 .left)) (c .value-at3 .ensures)
+returns-3 c =
+    rw
+    (others (c .before .before .before .before .args .table-id) (c .before .before .before .before .pre .1) (c .before .before .if1 .left)
+    (c .before .if2 .left))
+    (c .value-at3 .ensures)
 
 pub entry-id-spec : {M : Type 1} → statement M
 entry-id-spec =

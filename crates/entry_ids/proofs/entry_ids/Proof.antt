@@ -45,7 +45,9 @@ returns-3 : tie.Need-returns-3
 returns-3 c =
     let s = c .before .before .before .before .before .before .before .before .before .before .before .before .before .before .args in
     let g = c .before .before .before .before .before .before .before .before .before .before .gather-ids .ensures in
-    given-all (s .table-id) (s .body .now) (s .out .now) g (c .before .before .before .before .before .before .before .r .given .1) (c .before .before .before .before .before .if1 .left) (c .before .before .hand-out .ensures)
+    let r = c .before .before .before .before .before .before .before .r in
+    given-all (s .table-id) (s .body .now) (s .out .now) g (r .given .1) (c .before .before .before .before .before .if1 .left)
+    (c .before .before .hand-out .ensures)
 
 pub entry-ids-spec : {M : Type 1} → statement M
 entry-ids-spec =

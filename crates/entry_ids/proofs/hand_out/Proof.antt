@@ -40,8 +40,12 @@ loop-less c = omega arith
 loop-again : tie.Need-loop-again Inv-loop μ-loop
 loop-again c =
     let s = c .before .before .before .args in
-    let i = c .before .before .loop .i in
-    (omega arith, ap (λ (o : List ℕ). set o i (getD (s .ids .now) i 0)) (c .before .before .loop .inv .1) ∙ paste-step (s .out .now) (s .ids .now) i (omega arith) (omega arith), length-set (c .before .before .loop .out) i (getD (s .ids .now) i 0) ∙ c .before .before .loop .inv .2)
+    let i = c .before .before .loop .i in (
+      omega arith,
+      ap (λ (o : List ℕ). set o i (getD (s .ids .now) i 0)) (c .before .before .loop .inv .1) ∙ paste-step (s .out .now) (s .ids .now)
+          i (omega arith) (omega arith),
+      length-set (c .before .before .loop .out) i (getD (s .ids .now) i 0) ∙ c .before .before .loop .inv .2,
+    )
 
 same-length : tie.Need-same-length Inv-loop μ-loop
 same-length c = c .before .loop .inv .2

@@ -31,7 +31,10 @@ returns : tie.Need-returns Inv-loop μ-loop
 returns c =
     let s = c .before .before .before .before .args in
     let i = c .before .before .before .loop .i in
-    sym (is-in-met (s .id) (take (s .count) (s .ids .now)) i (rw (length-take-le (s .count) (s .ids .now) (c .before .before .before .before .pre)) (omega arith)) (getD-take (s .count) (s .ids .now) i 0 (omega arith) ∙ c .if1 .taken))
+    sym
+    (is-in-met (s .id) (take (s .count) (s .ids .now)) i
+    (rw (length-take-le (s .count) (s .ids .now) (c .before .before .before .before .pre)) (omega arith))
+    (getD-take (s .count) (s .ids .now) i 0 (omega arith) ∙ c .if1 .taken))
 
 add-i : tie.Need-add-i Inv-loop μ-loop
 add-i c = omega arith

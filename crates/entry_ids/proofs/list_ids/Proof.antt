@@ -23,7 +23,9 @@ least-bits-requires : tie.Need-least-bits-requires Inv-loop μ-loop
 least-bits-requires c κs = search needs
 
 loop-holds : tie.Need-loop-holds Inv-loop μ-loop
-loop-holds c = (kept-first _ _ _ _ (c .before .before .before .pre .0 .1) (c .before .before .before .pre .0 .2) (c .before .before .before .pre .1 .1), refl)
+loop-holds c =
+    let pre = c .before .before .before .pre in
+    (kept-first _ _ _ _ (pre .0 .1) (pre .0 .2) (pre .1 .1), refl)
 
 sub-loop : tie.Need-sub-loop Inv-loop μ-loop
 sub-loop c = omega (arith, c .loop .inv .0 .within)
@@ -31,8 +33,10 @@ sub-loop c = omega (arith, c .loop .inv .0 .within)
 entry-end-requires : tie.Need-entry-end-requires Inv-loop μ-loop
 entry-end-requires c κs =
     let s = c .before .before .before .before .before .args in
-    let k = c .before .loop in
-    ((record { short = omega (arith, c .before .before .before .before .before .pre .0 .0); within = k .inv .0 .within }, k .inv .0 .byte), c .before .before .before .before .before .pre .1 .0)
+    let k = c .before .loop in (
+      (record { short = omega (arith, c .before .before .before .before .before .pre .0 .0); within = k .inv .0 .within }, k .inv .0 .byte),
+      c .before .before .before .before .before .pre .1 .0,
+    )
 
 enum-known-end : tie.Need-enum-known-end Inv-loop μ-loop
 enum-known-end c = search needs
@@ -52,21 +56,27 @@ returns c =
     let k = c .before .before .before .before .before .loop in
     let l = c .before .before .before .before .before .before .before .before .before .pre .1 .0 in
     let e = sym (c .before .before .before .entry-end .ensures) ∙ told (c .before .enum-told .given .1) (c .end-refusal .ensures) in
-    kept-stop (s .table-id) (s .s .now) l (s .start) (k .at) (k .count) (k .ids) (k .inv .0) _ (omega (arith, c .before .before .before .before .before .before .least-bits .ensures)) e
+    let least-bits = c .before .before .before .before .before .before .least-bits in
+    kept-stop (s .table-id) (s .s .now) l (s .start) (k .at) (k .count) (k .ids) (k .inv .0) _ (omega (arith, least-bits .ensures)) e
 
 entry-id-requires : tie.Need-entry-id-requires Inv-loop μ-loop
 entry-id-requires c κs =
     let s = c .before .before .before .before .before .before .before .before .before .args in
     let k = c .before .before .before .before .before .loop in
-    let l = c .before .before .before .before .before .before .before .before .before .pre .1 .0 in
-    (record { short = omega (arith, c .before .before .before .before .before .before .before .before .before .pre .0 .0); fits = kept-word (s .table-id) (s .s .now) l (s .start) (k .at) (k .count) (k .ids) (k .inv .0) (omega (arith, c .before .before .before .before .before .before .least-bits .ensures)) }, l)
+    let l = c .before .before .before .before .before .before .before .before .before .pre .1 .0 in (
+      record
+          { short = omega (arith, c .before .before .before .before .before .before .before .before .before .pre .0 .0); fits = kept-word (s .table-id) (s .s .now) l (s .start) (k .at) (k .count) (k .ids) (k .inv .0) (omega (arith, c .before .before .before .before .before .before .least-bits .ensures)) },
+      l,
+    )
 
 join-requires : tie.Need-join-requires Inv-loop μ-loop
 join-requires c κs =
     let s = c .before .before .before .before .before .before .before .before .before .before .before .args in
     let k = c .before .before .before .before .before .before .before .loop in
     let l = c .before .before .before .before .before .before .before .before .before .before .before .pre .1 .0 in
-    kept-room (s .table-id) (s .s .now) l (s .start) (k .at) (k .count) (k .ids) (k .inv .0) (omega (arith, c .before .before .before .before .before .before .before .before .least-bits .ensures)) (c .before .before .before .before .before .before .before .before .before .before .before .pre .0 .0)
+    let least-bits = c .before .before .before .before .before .before .before .before .least-bits in
+    let pre = c .before .before .before .before .before .before .before .before .before .before .before .pre in
+    kept-room (s .table-id) (s .s .now) l (s .start) (k .at) (k .count) (k .ids) (k .inv .0) (omega (arith, least-bits .ensures)) (pre .0 .0)
 
 loop-less : tie.Need-loop-less Inv-loop μ-loop
 loop-less c =
@@ -74,7 +84,8 @@ loop-less c =
     let k = c .before .before .before .before .before .before .before .before .before .before .loop in
     let l = c .before .before .before .before .before .before .before .before .before .before .before .before .before .before .pre .1 .0 in
     let e = sym (c .before .before .before .before .before .before .before .before .entry-end .ensures) ∙ c .before .before .before .before .before .before .end .given .1 in
-    kept-less (s .table-id) (s .s .now) l (s .start) (k .at) (k .count) (k .ids) (k .inv .0) _ (omega (arith, c .before .before .before .before .before .before .before .before .before .before .before .least-bits .ensures)) e
+    kept-less (s .table-id) (s .s .now) l (s .start) (k .at) (k .count) (k .ids) (k .inv .0) _
+    (omega (arith, c .before .before .before .before .before .before .before .before .before .before .before .least-bits .ensures)) e
 
 loop-again : tie.Need-loop-again Inv-loop μ-loop
 loop-again c =
@@ -83,7 +94,11 @@ loop-again c =
     let l = c .before .before .before .before .before .before .before .before .before .before .before .before .before .before .pre .1 .0 in
     let e = sym (c .before .before .before .before .before .before .before .before .entry-end .ensures) ∙ c .before .before .before .before .before .before .end .given .1 in
     let j = c .before .before .join .ensures in
-    (kept-next (s .table-id) (s .s .now) l (s .start) (k .at) (k .count) (k .ids) (k .inv .0) _ (omega (arith, c .before .before .before .before .before .before .before .before .before .before .before .least-bits .ensures)) e (c .before .before .before .before .entry-id .ensures) j, j .room ∙ k .inv .1)
+    let least-bits = c .before .before .before .before .before .before .before .before .before .before .before .least-bits in (
+      kept-next (s .table-id) (s .s .now) l (s .start) (k .at) (k .count) (k .ids) (k .inv .0) _ (omega (arith, least-bits .ensures)) e
+          (c .before .before .before .before .entry-id .ensures) j,
+      j .room ∙ k .inv .1,
+    )
 
 same-length-2 : tie.Need-same-length-2 Inv-loop μ-loop
 same-length-2 c = c .before .loop .inv .1
@@ -93,7 +108,8 @@ returns-2 c =
     let s = c .before .before .before .before .before .args in
     let k = c .before .loop in
     let l = c .before .before .before .before .before .pre .1 .0 in
-    kept-over (s .table-id) (s .s .now) l (s .start) (k .at) (k .count) (k .ids) (k .inv .0) (c .before .before .before .before .before .pre .0 .0) (omega (arith, c .before .before .least-bits .ensures))
+    kept-over (s .table-id) (s .s .now) l (s .start) (k .at) (k .count) (k .ids) (k .inv .0) (c .before .before .before .before .before .pre .0 .0)
+    (omega (arith, c .before .before .least-bits .ensures))
 
 pub list-ids-spec : {M : Type 1} → statement M
 list-ids-spec =

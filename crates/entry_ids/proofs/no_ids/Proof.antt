@@ -16,7 +16,9 @@ enum-known-r : tie.Need-enum-known-r
 enum-known-r c = search needs
 
 returns : tie.Need-returns
-returns c = λ kept. gathered-none _ _ 0 kept (c .before .before .before .before .pre) (sym (c .enum-told .given .1) ∙ c .before .before .walk-body .ensures .0)
+returns c =
+    λ kept. gathered-none _ _ 0 kept (c .before .before .before .before .pre)
+    (sym (c .enum-told .given .1) ∙ c .before .before .walk-body .ensures .0)
 
 returns-2 : tie.Need-returns-2
 returns-2 c = λ kept. gathered-no _ _ 0 kept (sym (c .before .r .given .1) ∙ c .before .before .before .walk-body .ensures .0)

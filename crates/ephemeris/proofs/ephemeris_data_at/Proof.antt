@@ -21,17 +21,20 @@ returns : tie.Need-returns
 returns c = let a = c .before .before .before .args in past-count (a .body .now) (a .part) (a .accel) (a .index) (c .if1 .taken)
 
 returns-2 : tie.Need-returns-2
-returns-2 c = let a = c .before .before .before .before .args in too-long (a .body .now) (a .part) (a .accel) (a .index) (c .before .if1 .left) (c .if2 .taken)
+returns-2 c =
+    let a = c .before .before .before .before .args in too-long (a .body .now) (a .part) (a .accel) (a .index) (c .before .if1 .left) (c .if2 .taken)
 
 returns-3 : tie.Need-returns-3
 returns-3 c =
     let a = c .before .before .before .before .before .args in
-    outside (a .body .now) (a .part) (a .accel) (a .index) (c .before .before .if1 .left) (c .before .if2 .left) (omega (arith, bytes-few (a .accel) .0))
+    outside (a .body .now) (a .part) (a .accel) (a .index) (c .before .before .if1 .left) (c .before .if2 .left)
+    (omega (arith, bytes-few (a .accel) .0))
 
 returns-4 : tie.Need-returns-4
 returns-4 c =
     let a = c .before .before .before .before .before .before .args in
-    outside (a .body .now) (a .part) (a .accel) (a .index) (c .before .before .before .if1 .left) (c .before .before .if2 .left) (omega (arith, bytes-before (a .accel) (a .index) refl .0))
+    outside (a .body .now) (a .part) (a .accel) (a .index) (c .before .before .before .if1 .left) (c .before .before .if2 .left)
+    (omega (arith, bytes-before (a .accel) (a .index) refl .0))
 
 entry-bytes-requires : tie.Need-entry-bytes-requires
 entry-bytes-requires c κs = search needs
@@ -51,7 +54,8 @@ returns-5 : tie.Need-returns-5
 returns-5 c =
     let k = c .before .before in
     let a = k .before .before .before .before .before .before .args in
-    outside (a .body .now) (a .part) (a .accel) (a .index) (k .before .before .before .if1 .left) (k .before .before .if2 .left) (rw (c .before .entry-bytes .ensures) at (c .if5 .taken))
+    outside (a .body .now) (a .part) (a .accel) (a .index) (k .before .before .before .if1 .left) (k .before .before .if2 .left)
+    (rw (c .before .entry-bytes .ensures) at (c .if5 .taken))
 
 mul-entry-at : tie.Need-mul-entry-at
 mul-entry-at c = search needs

@@ -62,7 +62,8 @@ returns-2 c =
     let k = c .before .before in
     let g = counted k in
     let a = k .before .before .before .before .before .args in
-    short-answer (a .s .now) (a .accel) (a .at) (g .value) (g .next) (c .before .entry-bits .ensures) (omega (arith, g .there, g .next)) (c .if1 .taken)
+    short-answer (a .s .now) (a .accel) (a .at) (g .value) (g .next) (c .before .entry-bits .ensures) (omega (arith, g .there, g .next))
+    (c .if1 .taken)
 
 add-t13 : tie.Need-add-t13
 add-t13 c = search needs
@@ -72,7 +73,8 @@ returns-3 c =
     let k = c .before .before in
     let g = counted k in
     let a = k .before .before .before .before .before .args in
-    listed-answer (a .s .now) (a .accel) (a .at) (g .value) (g .next) (c .before .entry-bits .ensures) (omega (arith, g .there, g .next)) (c .if1 .left)
+    listed-answer (a .s .now) (a .accel) (a .at) (g .value) (g .next) (c .before .entry-bits .ensures) (omega (arith, g .there, g .next))
+    (c .if1 .left)
 
 pub read-ephemerides-spec : {M : Type 1} → statement M
 read-ephemerides-spec =

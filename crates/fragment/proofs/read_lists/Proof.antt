@@ -23,13 +23,15 @@ stage2 c = two _ _ (stage1 (c .before .before .before .before)) (c .before .befo
 
 stage3 : (c : tie.After-known-told3) → let c2 = c .before .before .before .before in let c1 = c2 .before .before .before .before in
     let a = c1 .before .before .before .before .before .args in
-    Three (now (a .s)) (a .at) (c1 .before .r .given .0 .0) (c1 .before .r .given .0 .1 .0) (c2 .before .v .given .0 .0) (c2 .before .v .given .0 .1 .0)
+    Three (now (a .s)) (a .at) (c1 .before .r .given .0 .0) (c1 .before .r .given .0 .1 .0) (c2 .before .v .given .0 .0)
+    (c2 .before .v .given .0 .1 .0)
     (c .before .r2 .given .0 .0) (c .before .r2 .given .0 .1 .0)
 stage3 c = three _ _ (stage2 (c .before .before .before .before)) (c .before .before .before .read-part2 .ensures) (c .before .r2 .given .1)
 
 stage4 : (c : tie.After-known-told4) → let c3 = c .before .before .before .before in let c2 = c3 .before .before .before .before in
     let c1 = c2 .before .before .before .before in let a = c1 .before .before .before .before .before .args in
-    Four (now (a .s)) (a .at) (c1 .before .r .given .0 .0) (c1 .before .r .given .0 .1 .0) (c2 .before .v .given .0 .0) (c2 .before .v .given .0 .1 .0)
+    Four (now (a .s)) (a .at) (c1 .before .r .given .0 .0) (c1 .before .r .given .0 .1 .0) (c2 .before .v .given .0 .0)
+    (c2 .before .v .given .0 .1 .0)
     (c3 .before .r2 .given .0 .0) (c3 .before .r2 .given .0 .1 .0) (c .before .v2 .given .0 .0) (c .before .v2 .given .0 .1 .0)
 stage4 c = four _ _ (stage3 (c .before .before .before .before)) (c .before .before .before .read-u2 .ensures) (c .before .v2 .given .1)
 

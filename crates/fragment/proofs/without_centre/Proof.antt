@@ -39,7 +39,8 @@ returns-2 c =
     let a = k .before .before .before .before .before .args in
     let m = k .before .v .given .1 in
     let e = k .before .before .before .read-u .ensures in
-    got _ 0 (a .at) _ _ unsigned "reserved_zero_future_use_4" 4 _ e m (without-lists _ _ _ _ _ _ (got-all _ _ 4 _ _ e m .next) (c .around-lists .ensures))
+    got _ 0 (a .at) _ _ unsigned "reserved_zero_future_use_4" 4 _ e m
+    (without-lists _ _ _ _ _ _ (got-all _ _ 4 _ _ e m .next) (c .around-lists .ensures))
 
 pub without-centre-spec : {M : Type 1} → statement M
 without-centre-spec =

@@ -26,7 +26,9 @@ refused-at-requires-2 : tie.Need-refused-at-requires-2
 refused-at-requires-2 c κs = search needs
 
 returns-2 : tie.Need-returns-2
-returns-2 c = ap Refused (c .refused-at2 .ensures) ∙ measure-wrong (now (c .before .before .before .before .before .args .ledger)) (c .before .before .before .if1 .left) (λ z. (c .before .if2 .taken) (c .before .before .get-be .ensures ∙ z))
+returns-2 c =
+    ap Refused (c .refused-at2 .ensures) ∙ measure-wrong (now (c .before .before .before .before .before .args .ledger))
+    (c .before .before .before .if1 .left) (λ z. (c .before .if2 .taken) (c .before .before .get-be .ensures ∙ z))
 
 shared-slice-read-if3 : tie.Need-shared-slice-read-if3
 shared-slice-read-if3 c = search needs
@@ -35,7 +37,10 @@ refused-at-requires-3 : tie.Need-refused-at-requires-3
 refused-at-requires-3 c κs = search needs
 
 returns-3 : tie.Need-returns-3
-returns-3 c = ap Refused (c .refused-at3 .ensures) ∙ measure-version (now (c .before .before .before .before .before .before .before .args .ledger)) (c .before .before .before .before .before .if1 .left) (sym (c .before .before .before .before .get-be .ensures) ∙ c .before .before .before .if2 .left) (c .before .if3 .taken)
+returns-3 c =
+    let a = c .before .before .before .before .before .before .before .args in
+    ap Refused (c .refused-at3 .ensures) ∙ measure-version (now (a .ledger)) (c .before .before .before .before .before .if1 .left)
+    (sym (c .before .before .before .before .get-be .ensures) ∙ c .before .before .before .if2 .left) (c .before .if3 .taken)
 
 shared-slice-read-table-id : tie.Need-shared-slice-read-table-id
 shared-slice-read-table-id c = search needs
@@ -44,7 +49,12 @@ slice-aggregate-read-content : tie.Need-slice-aggregate-read-content
 slice-aggregate-read-content c = search needs
 
 read-content-requires : tie.Need-read-content-requires
-read-content-requires c κs = framed (below-of (now (c .before .before .before .before .before .before .before .before .args .ledger)) (λ i. omega (arith, c .before .before .before .before .before .before .before .shared-slice-known .given i))) (c .before .before .before .before .before .before .if1 .left) (sym (c .before .before .before .before .before .get-be .ensures) ∙ c .before .before .before .before .if2 .left)
+read-content-requires c κs =
+    let a = c .before .before .before .before .before .before .before .before .args in
+    let if1 = c .before .before .before .before .before .before .if1 in
+    let shared-slice-known = c .before .before .before .before .before .before .before .shared-slice-known in
+    framed (below-of (now (a .ledger)) (λ i. omega (arith, shared-slice-known .given i))) (if1 .left)
+    (sym (c .before .before .before .before .before .get-be .ensures) ∙ c .before .before .before .before .if2 .left)
 
 enum-known-content : tie.Need-enum-known-content
 enum-known-content c = search needs
@@ -59,7 +69,8 @@ returns-4 : tie.Need-returns-4
 returns-4 c =
     let l = now (c .before .before .before .before .before .before .before .before .before .before .before .before .before .args .ledger) in
     let h : Headed l = record { four = c .before .before .before .before .before .before .before .before .before .before .before .if1 .left; long = (sym (c .before .before .before .before .before .before .before .before .before .before .get-be .ensures) ∙ c .before .before .before .before .before .before .before .before .before .if2 .left); version = c .before .before .before .before .before .before .before .if3 .left } in
-    measure-unread l h (c .before .enum-told .given .1) (c .step-refusal .ensures) (unheld (c .before .enum-told .given .1) (c .before .before .before .before .read-content .ensures))
+    measure-unread l h (c .before .enum-told .given .1) (c .step-refusal .ensures)
+    (unheld (c .before .enum-told .given .1) (c .before .before .before .before .read-content .ensures))
 
 returns-5 : tie.Need-returns-5
 returns-5 c =

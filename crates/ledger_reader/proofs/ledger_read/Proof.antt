@@ -18,13 +18,22 @@ enum-known-table-id : tie.Need-enum-known-table-id
 enum-known-table-id c = search needs
 
 returns : tie.Need-returns
-returns c = says-short (has-size (c .before .before .table-id .given .1) (c .before .before .before .before .ledger-measure .ensures)) (now (c .before .before .before .before .before .before .before .args .out)) (c .if1 .taken)
+returns c =
+    let a = c .before .before .before .before .before .before .before .args in
+    says-short (has-size (c .before .before .table-id .given .1) (c .before .before .before .before .ledger-measure .ensures)) (now (a .out))
+    (c .if1 .taken)
 
 read-content-requires : tie.Need-read-content-requires
-read-content-requires c κs = sized-framed (has-size (c .before .before .before .table-id .given .1) (c .before .before .before .before .before .ledger-measure .ensures)) (below-of (now (c .before .before .before .before .before .before .before .before .args .ledger)) (λ i. omega (arith, c .before .before .before .before .before .before .before .shared-slice-known .given i)))
+read-content-requires c κs =
+    let a = c .before .before .before .before .before .before .before .before .args in
+    let shared-slice-known = c .before .before .before .before .before .before .before .shared-slice-known in
+    sized-framed (has-size (c .before .before .before .table-id .given .1) (c .before .before .before .before .before .ledger-measure .ensures))
+    (below-of (now (a .ledger)) (λ i. omega (arith, shared-slice-known .given i)))
 
 returns-2 : tie.Need-returns-2
-returns-2 c = says-no (now (c .before .before .before .before .before .before .args .ledger)) (now (c .before .before .before .before .before .before .args .out)) (c .before .f .given .1) (c .before .before .before .ledger-measure .ensures)
+returns-2 c =
+    let a = c .before .before .before .before .before .before .args in
+    says-no (now (a .ledger)) (now (a .out)) (c .before .f .given .1) (c .before .before .before .ledger-measure .ensures)
 
 same-length : tie.Need-same-length
 same-length c = search needs
@@ -34,7 +43,13 @@ returns-3 c =
     let o = now (c .before .before .before .before .before .before .before .before .before .before .before .args .out) in
     let bo = below-of o (λ i. omega (arith, c .before .before .before .before .before .before .before .before .before .slice-known .given i)) in
     let bo′ = below-of (c .before .before .read-content .last .1 .1 .0) (λ i. omega (arith, c .slice-known2 .given i)) in
-    says-yes (has-size (c .before .before .before .before .before .before .table-id .given .1) (c .before .before .before .before .before .before .before .before .ledger-measure .ensures)) o (below-of (now (c .before .before .before .before .before .before .before .before .before .before .before .args .ledger)) (λ i. omega (arith, c .before .before .before .before .before .before .before .before .before .before .shared-slice-known .given i))) bo bo′ (search needs) (c .before .before .before .before .if1 .left) (c .before .before .read-content .ensures)
+    says-yes
+    (has-size (c .before .before .before .before .before .before .table-id .given .1)
+    (c .before .before .before .before .before .before .before .before .ledger-measure .ensures))
+    o
+    (below-of (now (c .before .before .before .before .before .before .before .before .before .before .before .args .ledger))
+    (λ i. omega (arith, c .before .before .before .before .before .before .before .before .before .before .shared-slice-known .given i)))
+    bo bo′ (search needs) (c .before .before .before .before .if1 .left) (c .before .before .read-content .ensures)
 
 pub ledger-read-spec : {M : Type 1} → statement M
 ledger-read-spec =

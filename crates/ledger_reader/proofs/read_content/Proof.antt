@@ -22,7 +22,11 @@ same-length : tie.Need-same-length
 same-length c = search needs
 
 returns : tie.Need-returns
-returns c = holds-no (c .enum-told .given .1) (content-no (layout (c .before .before .before .before .before .before .before .before .args .table-id)) (c .before .before .before .before .before .before .before .before .args .ledger .now) (unheld (c .enum-told .given .1) (c .before .before .before .before .read-fields .ensures)))
+returns c =
+    let a = c .before .before .before .before .before .before .before .before .args in
+    holds-no (c .enum-told .given .1)
+    (content-no (layout (a .table-id)) (a .ledger .now)
+    (unheld (c .enum-told .given .1) (c .before .before .before .before .read-fields .ensures)))
 
 refused-at-requires : tie.Need-refused-at-requires
 refused-at-requires c κs = search needs
@@ -31,13 +35,22 @@ same-length-2 : tie.Need-same-length-2
 same-length-2 c = search needs
 
 returns-2 : tie.Need-returns-2
-returns-2 c = holds-no (ap Refused (c .refused-at .ensures)) (content-over (layout (c .before .before .before .before .before .before .before .before .before .before .before .args .table-id)) (c .before .before .before .before .before .before .before .before .before .before .before .args .ledger .now) (held (c .before .before .before .fields .given .1) (c .before .before .before .before .before .before .before .read-fields .ensures)) (c .before .if1 .taken))
+returns-2 c =
+    let a = c .before .before .before .before .before .before .before .before .before .before .before .args in
+    let read-fields = c .before .before .before .before .before .before .before .read-fields in
+    holds-no (ap Refused (c .refused-at .ensures))
+    (content-over (layout (a .table-id)) (a .ledger .now) (held (c .before .before .before .fields .given .1) (read-fields .ensures))
+    (c .before .if1 .taken))
 
 same-length-3 : tie.Need-same-length-3
 same-length-3 c = search needs
 
 returns-3 : tie.Need-returns-3
-returns-3 c = record { to = content-held (layout (c .before .before .before .before .before .before .before .before .before .before .args .table-id)) (c .before .before .before .before .before .before .before .before .before .before .args .ledger .now) (held (c .before .before .fields .given .1) (c .before .before .before .before .before .before .read-fields .ensures)) (c .if1 .left) }
+returns-3 c =
+    let a = c .before .before .before .before .before .before .before .before .before .before .args in
+    let read-fields = c .before .before .before .before .before .before .read-fields in
+    record
+    { to = content-held (layout (a .table-id)) (a .ledger .now) (held (c .before .before .fields .given .1) (read-fields .ensures)) (c .if1 .left) }
 
 pub read-content-spec : {M : Type 1} → statement M
 read-content-spec =

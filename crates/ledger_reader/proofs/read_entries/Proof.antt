@@ -30,7 +30,11 @@ same-length : tie.Need-same-length Inv-loop μ-loop
 same-length c = omega (arith, c .before .before .before .before .before .before .before .loop .inv .0 .long)
 
 returns : tie.Need-returns Inv-loop μ-loop
-returns c = holds-no (c .enum-told .given .1) (stop (c .before .before .before .before .before .before .before .loop .inv .0) (c .before .before .before .before .before .before .loop-test .taken) (untaken (c .enum-told .given .1) (c .before .before .before .before .read-entry .ensures)))
+returns c =
+    let l = c .before .before .before .before .before .before .before .loop in
+    let test′ = c .before .before .before .before .before .before .loop-test in
+    holds-no (c .enum-told .given .1)
+    (stop (l .inv .0) (test′ .taken) (untaken (c .enum-told .given .1) (c .before .before .before .before .read-entry .ensures)))
 
 add-i : tie.Need-add-i Inv-loop μ-loop
 add-i c = omega arith
@@ -39,7 +43,13 @@ loop-less : tie.Need-loop-less Inv-loop μ-loop
 loop-less c = omega arith
 
 loop-again : tie.Need-loop-again Inv-loop μ-loop
-loop-again c = (turn (c .before .before .before .before .before .before .before .before .loop .inv .0) (c .before .before .before .before .before .before .before .loop-test .taken) (took (c .before .entry .given .1) (c .before .before .before .before .before .read-entry .ensures)), omega arith)
+loop-again c =
+    let l = c .before .before .before .before .before .before .before .before .loop in
+    let test′ = c .before .before .before .before .before .before .before .loop-test in (
+      turn (l .inv .0) (test′ .taken) (took (c .before .entry .given .1) (c .before .before .before .before .before .read-entry .ensures)),
+      omega
+          arith,
+    )
 
 same-length-2 : tie.Need-same-length-2 Inv-loop μ-loop
 same-length-2 c = c .before .loop .inv .0 .long

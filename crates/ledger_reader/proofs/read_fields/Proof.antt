@@ -24,10 +24,16 @@ same-length : tie.Need-same-length
 same-length c = search needs
 
 returns : tie.Need-returns
-returns c = rw (opaque-from (c .before .before .before .before .before .before .before .args .table-id) (c .before .before .before .before .if1 .taken)) (record { to = opaque-holds (c .before .before .before .before .before .before .before .pre .four) (c .before .before .copy-opaque .ensures) })
+returns c =
+    let a = c .before .before .before .before .before .before .before .args in
+    let pre = c .before .before .before .before .before .before .before .pre in
+    rw (opaque-from (a .table-id) (c .before .before .before .before .if1 .taken))
+    (record { to = opaque-holds (pre .four) (c .before .before .copy-opaque .ensures) })
 
 read-association-requires : tie.Need-read-association-requires
-read-association-requires c κs = (record { short = c .before .before .before .before .before .pre .short; within = c .before .before .before .before .before .pre .four; behind = omega arith })
+read-association-requires c κs =
+    let pre = c .before .before .before .before .before .pre in
+    (record { short = pre .short; within = pre .four; behind = omega arith })
 
 same-length-2 : tie.Need-same-length-2
 same-length-2 c = search needs
@@ -38,7 +44,9 @@ returns-2 c =
     rw z (sole-holds (as-taken (c .before .before .read-association .ensures)))
 
 read-header-requires : tie.Need-read-header-requires
-read-header-requires c κs = (record { short = c .before .before .before .before .before .before .pre .short; within = c .before .before .before .before .before .before .pre .four; behind = omega arith })
+read-header-requires c κs =
+    let pre = c .before .before .before .before .before .before .pre in
+    (record { short = pre .short; within = pre .four; behind = omega arith })
 
 enum-known-header : tie.Need-enum-known-header
 enum-known-header c = search needs
@@ -52,12 +60,15 @@ same-length-3 c = search needs
 returns-3 : tie.Need-returns-3
 returns-3 c =
     let z : c .before .before .before .before .before .before .before .before .before .before .before .args .table-id ≡ 4 = c .before .before .before .before .before .before .if3 .taken in
-    rw z (holds-no (c .enum-told .given .1) (head-no 32 position3 (stopped (c .enum-told .given .1) (c .before .before .before .before .read-header .ensures))))
+    rw z
+    (holds-no (c .enum-told .given .1)
+    (head-no 32 position3 (stopped (c .enum-told .given .1) (c .before .before .before .before .read-header .ensures))))
 
 read-list-requires : tie.Need-read-list-requires
 read-list-requires c κs =
     let w = (took (c .before .before .header .given .1) (as-taken (c .before .before .before .before .before .before .read-header .ensures))) in
-    (record { short = c .before .before .before .before .before .before .before .before .before .before .before .before .before .pre .short; within = w .within; behind = omega (arith, w .slack) }, record { known = omega arith; several = λ z. omega arith })
+    let pre = c .before .before .before .before .before .before .before .before .before .before .before .before .before .pre in
+    (record { short = pre .short; within = w .within; behind = omega (arith, w .slack) }, record { known = omega arith; several = λ z. omega arith })
 
 same-length-4 : tie.Need-same-length-4
 same-length-4 c = search needs
@@ -69,7 +80,12 @@ returns-4 c =
     rw z (list-holds 32 position3 w (rw z at (c .before .before .read-list .ensures)))
 
 read-list-requires-2 : tie.Need-read-list-requires-2
-read-list-requires-2 c κs = ((record { short = c .before .before .before .before .before .before .pre .short; within = c .before .before .before .before .before .before .pre .four; behind = omega arith }), record { known = omega arith; several = c .before .before .if2 .left })
+read-list-requires-2 c κs =
+    let pre = c .before .before .before .before .before .before .pre in (
+      (record { short = pre .short; within = pre .four; behind = omega arith }),
+      record
+          { known = omega arith; several = c .before .before .if2 .left },
+    )
 
 same-length-5 : tie.Need-same-length-5
 same-length-5 c = search needs
@@ -77,7 +93,9 @@ same-length-5 c = search needs
 returns-5 : tie.Need-returns-5
 returns-5 c =
     let h = headless (c .before .before .before .before .before .before .before .before .before .args .table-id) (omega arith) (c .before .before .before .before .before .if2 .left) in
-    rw (h .1) (list-holds (h .0) _ (no-head (c .before .before .before .before .before .before .before .before .before .pre .four)) (c .before .before .read-list2 .ensures))
+    rw (h .1)
+    (list-holds (h .0) _ (no-head (c .before .before .before .before .before .before .before .before .before .pre .four))
+    (c .before .before .read-list2 .ensures))
 
 pub read-fields-spec : {M : Type 1} → statement M
 read-fields-spec =

@@ -16,7 +16,8 @@ refused-at-requires : tie.Need-refused-at-requires
 refused-at-requires c κs = search needs
 
 returns : tie.Need-returns
-returns c = holds-no (ap Refused (c .refused-at .ensures)) (count-short _ _ _ ((c .before .before .before .before .pre .0) .within) (c .before .if1 .taken))
+returns c =
+    holds-no (ap Refused (c .refused-at .ensures)) (count-short _ _ _ ((c .before .before .before .before .pre .0) .within) (c .before .if1 .taken))
 
 get-be-requires : tie.Need-get-be-requires
 get-be-requires c κs = search needs
@@ -25,13 +26,20 @@ add-read-entries : tie.Need-add-read-entries
 add-read-entries c = search needs
 
 read-entries-requires : tie.Need-read-entries-requires
-read-entries-requires c κs = (record { short = (c .before .before .before .before .before .pre .0) .short; within = omega arith; behind = omega (arith, (c .before .before .before .before .before .pre .0) .behind) }, c .before .before .before .before .before .pre .1)
+read-entries-requires c κs =
+    let pre = c .before .before .before .before .before .pre in
+    (record { short = (pre .0) .short; within = omega arith; behind = omega (arith, (pre .0) .behind) }, pre .1)
 
 same-length : tie.Need-same-length
 same-length c = search needs
 
 returns-2 : tie.Need-returns-2
-returns-2 c = holds-as (count-there (c .before .before .before .before .before .before .before .before .args .ledger .now) (entryOf (c .before .before .before .before .before .before .before .before .args .table-id)) (c .before .before .before .before .before .before .before .before .args .place) (c .before .before .before .before .before .if1 .left) (c .before .before .before .before .get-be .ensures)) (c .before .before .read-entries .ensures)
+returns-2 c =
+    let a = c .before .before .before .before .before .before .before .before .args in
+    holds-as
+    (count-there (a .ledger .now) (entryOf (a .table-id)) (a .place) (c .before .before .before .before .before .if1 .left)
+    (c .before .before .before .before .get-be .ensures))
+    (c .before .before .read-entries .ensures)
 
 pub read-list-spec : {M : Type 1} → statement M
 read-list-spec =

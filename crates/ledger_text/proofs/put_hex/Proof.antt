@@ -38,7 +38,9 @@ add-out : tie.Need-add-out Inv-loop μ-loop
 add-out c = omega (arith, c .before .before .before .before .loop .inv .room)
 
 slice-write-out-2 : tie.Need-slice-write-out-2 Inv-loop μ-loop
-slice-write-out-2 c = simp length-set (omega (arith, hex-long (c .before .before .before .before .loop .inv), c .before .before .before .before .loop .inv .room))
+slice-write-out-2 c =
+    let l = c .before .before .before .before .loop in
+    simp length-set (omega (arith, hex-long (l .inv), l .inv .room))
 
 add-i : tie.Need-add-i Inv-loop μ-loop
 add-i c = omega arith

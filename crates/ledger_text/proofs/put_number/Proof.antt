@@ -49,7 +49,8 @@ returns : tie.Need-returns
 returns c =
     let d = c .before .before .before .before .before .before .before .decimal-digits in
     let a = c .before .before .before .before .before .before .before .before .before .before .args in
-    numbered (a .out .now) _ (d .last .1 .0) (a .at) (a .n) (d .result) (omega arith) (d .ensures .0) (d .kept .1 .0) (d .ensures .1) (c .before .before .put-bytes .ensures)
+    numbered (a .out .now) _ (d .last .1 .0) (a .at) (a .n) (d .result) (omega arith) (d .ensures .0) (d .kept .1 .0) (d .ensures .1)
+    (c .before .before .put-bytes .ensures)
 
 pub put-number-spec : {M : Type 1} → statement M
 put-number-spec =

@@ -44,10 +44,16 @@ add-result c = search needs
 same-length : tie.Need-same-length
 same-length c =
     let u = c .before .before .put-number3 in
-    length-set (u .last .0) (u .result) 10 ∙ u .kept .0 ∙ c .before .before .before .before .before .before .put-number2 .kept .0 ∙ c .before .before .before .before .before .before .before .before .before .before .put-number .kept .0 ∙ length-set (c .before .before .before .before .before .before .before .before .before .before .before .before .before .before .args .out .now) 0 82
+    let a = c .before .before .before .before .before .before .before .before .before .before .before .before .before .before .args in
+    let put-number = c .before .before .before .before .before .before .before .before .before .before .put-number in
+    let put-number2 = c .before .before .before .before .before .before .put-number2 in
+    length-set (u .last .0) (u .result) 10 ∙ u .kept .0 ∙ put-number2 .kept .0 ∙ put-number .kept .0 ∙ length-set (a .out .now) 0 82
 
 returns-2 : tie.Need-returns-2
-returns-2 c = refusal-stored _ _ _ _ _ _ _ _ _ _ (omega arith) (c .before .before .before .before .before .before .before .before .before .before .put-number .ensures) (c .before .before .before .before .before .before .put-number2 .ensures) (c .before .before .put-number3 .ensures)
+returns-2 c =
+    let put-number = c .before .before .before .before .before .before .before .before .before .before .put-number in
+    let put-number2 = c .before .before .before .before .before .before .put-number2 in
+    refusal-stored _ _ _ _ _ _ _ _ _ _ (omega arith) (put-number .ensures) (put-number2 .ensures) (c .before .before .put-number3 .ensures)
 
 pub refusal-line-spec : {M : Type 1} → statement M
 refusal-line-spec =

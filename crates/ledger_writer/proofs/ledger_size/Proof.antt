@@ -25,13 +25,19 @@ step-refusal-requires : tie.Need-step-refusal-requires
 step-refusal-requires c κs = search needs
 
 returns-2 : tie.Need-returns-2
-returns-2 c = size-no (c .before .before .before .before .before .before .if1 .left) (c .before .enum-told .given .1) (c .before .before .before .before .write-content .ensures) (c .step-refusal .ensures)
+returns-2 c =
+    let if1 = c .before .before .before .before .before .before .if1 in
+    size-no (if1 .left) (c .before .enum-told .given .1) (c .before .before .before .before .write-content .ensures) (c .step-refusal .ensures)
 
 add-t6 : tie.Need-add-t6
-add-t6 c = omega (arith, (content-done (c .before .content .given .1) (c .before .before .before .before .write-content .ensures)) .small, c .before .before .before .before .before .before .if1 .left)
+add-t6 c =
+    let if1 = c .before .before .before .before .before .before .if1 in
+    omega (arith, (content-done (c .before .content .given .1) (c .before .before .before .before .write-content .ensures)) .small, if1 .left)
 
 returns-3 : tie.Need-returns-3
-returns-3 c = size-yes (c .before .before .before .before .before .before .if1 .left) (content-done (c .before .content .given .1) (c .before .before .before .before .write-content .ensures))
+returns-3 c =
+    let if1 = c .before .before .before .before .before .before .if1 in
+    size-yes (if1 .left) (content-done (c .before .content .given .1) (c .before .before .before .before .write-content .ensures))
 
 pub ledger-size-spec : {M : Type 1} → statement M
 ledger-size-spec =

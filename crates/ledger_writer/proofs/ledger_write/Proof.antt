@@ -22,34 +22,60 @@ returns-2 : tie.Need-returns-2
 returns-2 c = says-short (known (c .before .before .n .given .1) (c .before .before .before .before .ledger-size .ensures)) (c .if1 .taken)
 
 sub-put-be : tie.Need-sub-put-be
-sub-put-be c = omega (arith, (known (c .before .before .before .n .given .1) (c .before .before .before .before .before .ledger-size .ensures)) .content)
+sub-put-be c =
+    omega (arith, (known (c .before .before .before .n .given .1) (c .before .before .before .before .before .ledger-size .ensures)) .content)
 
 put-be-requires : tie.Need-put-be-requires
-put-be-requires c κs = omega (arith, (known (c .before .before .before .n .given .1) (c .before .before .before .before .before .ledger-size .ensures)) .content)
+put-be-requires c κs =
+    omega (arith, (known (c .before .before .before .n .given .1) (c .before .before .before .before .before .ledger-size .ensures)) .content)
 
 put-be-requires-2 : tie.Need-put-be-requires-2
-put-be-requires-2 c κs = omega (arith, (known (c .before .before .before .before .before .before .before .n .given .1) (c .before .before .before .before .before .before .before .before .before .ledger-size .ensures)) .content)
+put-be-requires-2 c κs =
+    let ledger-size = c .before .before .before .before .before .before .before .before .before .ledger-size in
+    let n = c .before .before .before .before .before .before .before .n in
+    omega (arith, (known (n .given .1) (ledger-size .ensures)) .content)
 
 put-be-requires-3 : tie.Need-put-be-requires-3
-put-be-requires-3 c κs = omega (arith, (known (c .before .before .before .before .before .before .before .before .before .before .before .n .given .1) (c .before .before .before .before .before .before .before .before .before .before .before .before .before .ledger-size .ensures)) .content)
+put-be-requires-3 c κs =
+    let ledger-size = c .before .before .before .before .before .before .before .before .before .before .before .before .before .ledger-size in
+    let n = c .before .before .before .before .before .before .before .before .before .before .before .n in
+    omega (arith, (known (n .given .1) (ledger-size .ensures)) .content)
 
 sub-write-content : tie.Need-sub-write-content
-sub-write-content c = omega (arith, (known (c .before .before .before .before .before .before .before .before .before .before .before .before .before .before .n .given .1) (c .before .before .before .before .before .before .before .before .before .before .before .before .before .before .before .before .ledger-size .ensures)) .content)
+sub-write-content c =
+    let ledger-size = c .before .before .before .before .before .before .before .before .before .before .before .before .before .before .before .before .ledger-size in
+    let n = c .before .before .before .before .before .before .before .before .before .before .before .before .before .before .n in
+    omega (arith, (known (n .given .1) (ledger-size .ensures)) .content)
 
 part-write-content-start : tie.Need-part-write-content-start
-part-write-content-start c = omega (arith, (known (c .before .before .before .before .before .before .before .before .before .before .before .before .before .before .n .given .1) (c .before .before .before .before .before .before .before .before .before .before .before .before .before .before .before .before .ledger-size .ensures)) .content)
+part-write-content-start c =
+    let ledger-size = c .before .before .before .before .before .before .before .before .before .before .before .before .before .before .before .before .ledger-size in
+    let n = c .before .before .before .before .before .before .before .before .before .before .before .before .before .before .n in
+    omega (arith, (known (n .given .1) (ledger-size .ensures)) .content)
 
 part-write-content-end : tie.Need-part-write-content-end
 part-write-content-end c = search needs
 
 write-content-requires : tie.Need-write-content-requires
-write-content-requires c κs = (known (c .before .before .before .before .before .before .before .before .before .before .before .before .before .before .before .n .given .1) (c .before .before .before .before .before .before .before .before .before .before .before .before .before .before .before .before .before .ledger-size .ensures)) .short
+write-content-requires c κs =
+    let ledger-size = c .before .before .before .before .before .before .before .before .before .before .before .before .before .before .before .before .before .ledger-size in
+    let n = c .before .before .before .before .before .before .before .before .before .before .before .before .before .before .before .n in
+    (known (n .given .1) (ledger-size .ensures)) .short
 
 same-length : tie.Need-same-length
 same-length c = search needs
 
 returns-3 : tie.Need-returns-3
-returns-3 c = says-yes _ (c .before .before .before .before .before .before .before .before .before .before .before .before .before .before .before .before .before .before .before .before .before .before .before .fits .table-id .fits) (known (c .before .before .before .before .before .before .before .before .before .before .before .before .before .before .before .before .before .before .n .given .1) (c .before .before .before .before .before .before .before .before .before .before .before .before .before .before .before .before .before .before .before .before .ledger-size .ensures)) (c .before .before .before .before .before .before .before .before .before .before .before .before .before .before .before .before .if1 .left) (c .before .before .before .before .before .before .before .before .before .before .before .before .before .before .put-be .ensures) (c .before .before .before .before .before .before .before .before .before .before .put-be2 .ensures) (c .before .before .before .before .before .before .put-be3 .ensures) (search needs) (c .before .before .write-content .ensures)
+returns-3 c =
+    let fits = c .before .before .before .before .before .before .before .before .before .before .before .before .before .before .before .before .before .before .before .before .before .before .before .fits in
+    let if1 = c .before .before .before .before .before .before .before .before .before .before .before .before .before .before .before .before .if1 in
+    let ledger-size = c .before .before .before .before .before .before .before .before .before .before .before .before .before .before .before .before .before .before .before .before .ledger-size in
+    let n = c .before .before .before .before .before .before .before .before .before .before .before .before .before .before .before .before .before .before .n in
+    let put-be = c .before .before .before .before .before .before .before .before .before .before .before .before .before .before .put-be in
+    let put-be2 = c .before .before .before .before .before .before .before .before .before .before .put-be2 in
+    let put-be3 = c .before .before .before .before .before .before .put-be3 in
+    says-yes _ (fits .table-id .fits) (known (n .given .1) (ledger-size .ensures)) (if1 .left) (put-be .ensures) (put-be2 .ensures) (put-be3 .ensures)
+    (search needs) (c .before .before .write-content .ensures)
 
 pub ledger-write-spec : {M : Type 1} → statement M
 ledger-write-spec =

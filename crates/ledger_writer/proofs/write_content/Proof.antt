@@ -32,7 +32,9 @@ same-length-3 : tie.Need-same-length-3
 same-length-3 c = search needs
 
 returns-3 : tie.Need-returns-3
-returns-3 c = listed (layout-list _ (c .before .before .before .before .if3 .taken) (c .before .before .before .before .before .if2 .left)) (stay (omega arith)) (c .before .before .write-entries .ensures)
+returns-3 c =
+    listed (layout-list _ (c .before .before .before .before .if3 .taken) (c .before .before .before .before .before .if2 .left)) (stay (omega arith))
+    (c .before .before .write-entries .ensures)
 
 write-header-requires : tie.Need-write-header-requires
 write-header-requires c κs = search needs
@@ -47,16 +49,28 @@ same-length-4 : tie.Need-same-length-4
 same-length-4 c = search needs
 
 returns-4 : tie.Need-returns-4
-returns-4 c = unheaded (layout-headed (c .before .before .before .before .before .before .before .before .before .before .before .args .table-id) (omega arith)) (c .enum-told .given .1) (c .before .before .before .before .write-header .ensures)
+returns-4 c =
+    let a = c .before .before .before .before .before .before .before .before .before .before .before .args in
+    unheaded (layout-headed (a .table-id) (omega arith)) (c .enum-told .given .1) (c .before .before .before .before .write-header .ensures)
 
 write-entries-requires-2 : tie.Need-write-entries-requires-2
-write-entries-requires-2 c κs = (record { short = c .before .before .before .before .before .before .before .before .before .before .before .before .before .pre; within = (done (c .before .before .head .given .1) (c .before .before .before .before .before .before .write-header .ensures)) .within; behind = omega (arith, (done (c .before .before .head .given .1) (c .before .before .before .before .before .before .write-header .ensures)) .slack) }, header-ends (done (c .before .before .head .given .1) (c .before .before .before .before .before .before .write-header .ensures)))
+write-entries-requires-2 c κs =
+    let pre = c .before .before .before .before .before .before .before .before .before .before .before .before .before .pre in
+    let write-header = c .before .before .before .before .before .before .write-header in (
+      record
+          { short = pre; within = (done (c .before .before .head .given .1) (write-header .ensures)) .within; behind = omega (arith, (done (c .before .before .head .given .1) (write-header .ensures)) .slack) },
+      header-ends (done (c .before .before .head .given .1) (write-header .ensures)),
+    )
 
 same-length-5 : tie.Need-same-length-5
 same-length-5 c = search needs
 
 returns-5 : tie.Need-returns-5
-returns-5 c = listed (layout-headed (c .before .before .before .before .before .before .before .before .before .before .before .before .before .before .before .before .args .table-id) (omega arith)) (done (c .before .before .before .before .before .head .given .1) (c .before .before .before .before .before .before .before .before .before .write-header .ensures)) (c .before .before .write-entries2 .ensures)
+returns-5 c =
+    let a = c .before .before .before .before .before .before .before .before .before .before .before .before .before .before .before .before .args in
+    let write-header = c .before .before .before .before .before .before .before .before .before .write-header in
+    listed (layout-headed (a .table-id) (omega arith)) (done (c .before .before .before .before .before .head .given .1) (write-header .ensures))
+    (c .before .before .write-entries2 .ensures)
 
 pub write-content-spec : {M : Type 1} → statement M
 write-content-spec =

@@ -23,7 +23,9 @@ least-of-requires : tie.Need-least-of-requires Inv-loop μ-loop
 least-of-requires c κs = search needs
 
 add-there : tie.Need-add-there Inv-loop μ-loop
-add-there c = omega (arith, c .before .before .before .pre .0 .behind, c .before .before .before .pre .0 .within, c .before .before .before .pre .0 .short)
+add-there c =
+    let pre = c .before .before .before .pre in
+    omega (arith, pre .0 .behind, pre .0 .within, pre .0 .short)
 
 loop-holds : tie.Need-loop-holds Inv-loop μ-loop
 loop-holds c = begin (c .before .before .before .pre .0) (c .before .before .before .pre .1)
@@ -44,7 +46,9 @@ part-write-entry-end : tie.Need-part-write-entry-end Inv-loop μ-loop
 part-write-entry-end c = omega arith
 
 write-entry-requires : tie.Need-write-entry-requires Inv-loop μ-loop
-write-entry-requires c κs = (record { short = c .before .before .before .loop .inv .placed .short; within = c .before .before .before .loop .inv .placed .within; behind = omega arith }, c .before .before .before .loop .inv .aligned)
+write-entry-requires c κs =
+    let l = c .before .before .before .loop in
+    (record { short = l .inv .placed .short; within = l .inv .placed .within; behind = omega arith }, l .inv .aligned)
 
 enum-known-entry : tie.Need-enum-known-entry Inv-loop μ-loop
 enum-known-entry c = search needs
@@ -56,28 +60,70 @@ same-length : tie.Need-same-length Inv-loop μ-loop
 same-length c = omega (arith, c .before .before .before .before .before .before .before .before .loop .inv .long)
 
 returns : tie.Need-returns Inv-loop μ-loop
-returns c = listed-no (c .enum-told .given .1) (stop (c .before .before .before .before .before .before .before .before .loop .inv) (stopped (c .enum-told .given .1) (c .before .before .before .before .write-entry .ensures)) (omega (arith, c .before .before .before .before .before .before .before .before .before .least-of .ensures)))
+returns c =
+    let least-of = c .before .before .before .before .before .before .before .before .before .least-of in
+    let l = c .before .before .before .before .before .before .before .before .loop in
+    listed-no (c .enum-told .given .1)
+    (stop (l .inv) (stopped (c .enum-told .given .1) (c .before .before .before .before .write-entry .ensures))
+    (omega (arith, least-of .ensures)))
 
 add-there-2 : tie.Need-add-there-2 Inv-loop μ-loop
-add-there-2 c = omega (arith, (done (c .before .entry .given .1) (c .before .before .before .before .before .write-entry .ensures)) .slack, (done (c .before .entry .given .1) (c .before .before .before .before .before .write-entry .ensures)) .within, c .before .before .before .before .before .before .before .before .before .loop .inv .placed .behind, c .before .before .before .before .before .before .before .before .before .loop .inv .placed .within, c .before .before .before .before .before .before .before .before .before .loop .inv .placed .short)
+add-there-2 c =
+    let l = c .before .before .before .before .before .before .before .before .before .loop in
+    let write-entry = c .before .before .before .before .before .write-entry in
+    omega (
+      arith,
+      (done (c .before .entry .given .1) (write-entry .ensures)) .slack,
+      (done (c .before .entry .given .1) (write-entry .ensures)) .within,
+      l .inv .placed .behind,
+      l .inv .placed .within,
+      l .inv .placed .short,
+    )
 
 add-count : tie.Need-add-count Inv-loop μ-loop
-add-count c = omega (arith, c .before .before .before .before .before .before .before .before .before .loop .inv .few, c .before .before .before .before .before .before .before .before .before .loop .inv .placed .within, c .before .before .before .before .before .before .before .before .before .loop .inv .placed .short)
+add-count c =
+    let l = c .before .before .before .before .before .before .before .before .before .loop in
+    omega (arith, l .inv .few, l .inv .placed .within, l .inv .placed .short)
 
 loop-less : tie.Need-loop-less Inv-loop μ-loop
-loop-less c = omega (arith, (turn (c .before .before .before .before .before .before .before .before .before .loop .inv) (done (c .before .entry .given .1) (c .before .before .before .before .before .write-entry .ensures)) _ (omega (arith, c .before .before .before .before .before .before .before .before .before .before .least-of .ensures)) (omega (arith, c .before .before .before .before .before .before .before .before .before .loop .inv .long)) (lent (c .before .before .before .before .before .before .before .before .before .loop .out) _ _ (c .before .before .before .before .before .before .before .within .result) (c .before .before .before .before .before .before .before .before .before .loop .there) (c .before .entry .given .0 .1 .0) (c .before .before .before .before .before .before .before .within .ensures .0) (c .before .before .before .before .before .before .before .within .ensures .1) (ledger-size (done (c .before .entry .given .1) (c .before .before .before .before .before .write-entry .ensures))) ((done (c .before .entry .given .1) (c .before .before .before .before .before .write-entry .ensures)) .bytes))) .0, (done (c .before .entry .given .1) (c .before .before .before .before .before .write-entry .ensures)) .within)
+loop-less c =
+    let least-of = c .before .before .before .before .before .before .before .before .before .before .least-of in
+    let l = c .before .before .before .before .before .before .before .before .before .loop in
+    let within = c .before .before .before .before .before .before .before .within in
+    let write-entry = c .before .before .before .before .before .write-entry in
+    omega (
+      arith,
+      (turn (l .inv) (done (c .before .entry .given .1) (write-entry .ensures)) _ (omega (arith, least-of .ensures))
+          (omega (arith, l .inv .long))
+          (lent (l .out) _ _ (within .result) (l .there) (c .before .entry .given .0 .1 .0) (within .ensures .0) (within .ensures .1)
+          (ledger-size (done (c .before .entry .given .1) (write-entry .ensures)))
+          ((done (c .before .entry .given .1) (write-entry .ensures)) .bytes))) .0,
+      (done (c .before .entry .given .1) (write-entry .ensures)) .within,
+    )
 
 loop-again : tie.Need-loop-again Inv-loop μ-loop
-loop-again c = (turn (c .before .before .before .before .before .before .before .before .before .loop .inv) (done (c .before .entry .given .1) (c .before .before .before .before .before .write-entry .ensures)) _ (omega (arith, c .before .before .before .before .before .before .before .before .before .before .least-of .ensures)) (omega (arith, c .before .before .before .before .before .before .before .before .before .loop .inv .long)) (lent (c .before .before .before .before .before .before .before .before .before .loop .out) _ _ (c .before .before .before .before .before .before .before .within .result) (c .before .before .before .before .before .before .before .before .before .loop .there) (c .before .entry .given .0 .1 .0) (c .before .before .before .before .before .before .before .within .ensures .0) (c .before .before .before .before .before .before .before .within .ensures .1) (ledger-size (done (c .before .entry .given .1) (c .before .before .before .before .before .write-entry .ensures))) ((done (c .before .entry .given .1) (c .before .before .before .before .before .write-entry .ensures)) .bytes))) .1
+loop-again c =
+    let least-of = c .before .before .before .before .before .before .before .before .before .before .least-of in
+    let l = c .before .before .before .before .before .before .before .before .before .loop in
+    let within = c .before .before .before .before .before .before .before .within in
+    let write-entry = c .before .before .before .before .before .write-entry in
+    (turn (l .inv) (done (c .before .entry .given .1) (write-entry .ensures)) _ (omega (arith, least-of .ensures)) (omega (arith, l .inv .long))
+    (lent (l .out) _ _ (within .result) (l .there) (c .before .entry .given .0 .1 .0) (within .ensures .0) (within .ensures .1)
+    (ledger-size (done (c .before .entry .given .1) (write-entry .ensures)))
+    ((done (c .before .entry .given .1) (write-entry .ensures)) .bytes))) .1
 
 put-requires : tie.Need-put-requires Inv-loop μ-loop
-put-requires c κs = (omega (arith, c .before .before .before .before .before .before .pre .0 .behind, c .before .before .before .before .before .before .pre .0 .within, c .before .before .before .before .before .before .pre .0 .short), omega arith)
+put-requires c κs =
+    let pre = c .before .before .before .before .before .before .pre in
+    (omega (arith, pre .0 .behind, pre .0 .within, pre .0 .short), omega arith)
 
 same-length-2 : tie.Need-same-length-2 Inv-loop μ-loop
 same-length-2 c = omega (arith, c .before .before .before .before .before .loop .inv .long)
 
 returns-2 : tie.Need-returns-2 Inv-loop μ-loop
-returns-2 c = record { to = ended (c .before .before .before .before .before .loop .inv) (omega (arith, c .before .before .before .before .before .before .least-of .ensures)) (c .before .before .put .ensures) }
+returns-2 c =
+    let least-of = c .before .before .before .before .before .before .least-of in
+    record { to = ended (c .before .before .before .before .before .loop .inv) (omega (arith, least-of .ensures)) (c .before .before .put .ensures) }
 
 pub write-entries-spec : {M : Type 1} → statement M
 write-entries-spec =

@@ -91,7 +91,9 @@ returns-4 c =
     let e = o .before .before .before .before in
     let a = e .before .before .before .args in
     let s = used-stopped (a .s .now) 18 (a .stop) _ (behind o) (k .read-usable2 .ensures) (c .before .enum-told2 .given .1) (c .usable-refusal2 .ensures) in
-    sym (stopped-answer _ Read Refused (stop-short (a .s .now) (a .meta) (a .start) (a .stop) (a .at) (e .before .if1 .left) (e .if2 .left) (start o) s))
+    sym
+    (stopped-answer _ Read Refused
+    (stop-short (a .s .now) (a .meta) (a .start) (a .stop) (a .at) (e .before .if1 .left) (e .if2 .left) (start o) s))
 
 metadata-at-requires : tie.Need-metadata-at-requires
 metadata-at-requires c κs = search needs

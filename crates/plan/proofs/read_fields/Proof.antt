@@ -18,7 +18,8 @@ front : (c : tie.After-known-told4) →
     let k2 = k3 .before .before .before .before in
     let k1 = k2 .before .before .before .before in
     let s = k1 .before .before .before .before .before in
-    Front (s .args .s .now) (s .args .end) (s .args .head) (s .args .at) (c .before .k2 .given .0 .1 .0) (k1 .before .r .given .0 .0) (k2 .before .r2 .given .0 .0)
+    Front (s .args .s .now) (s .args .end) (s .args .head) (s .args .at) (c .before .k2 .given .0 .1 .0) (k1 .before .r .given .0 .0)
+    (k2 .before .r2 .given .0 .0)
     (k3 .before .k .given .0 .0) (c .before .k2 .given .0 .0)
 front c =
     let k3 = c .before .before .before .before in
@@ -110,7 +111,9 @@ returns-4 c =
     (cut-clock _ e _ _ _ "cycle_duration" _ (c .before .before .before .read-clock2 .ensures) (c .before .enum-told4 .given .1) (c .clock-refusal2 .ensures) (clock-place _ m3 e3 l) refl)))
 
 read-mode-requires : tie.Need-read-mode-requires
-read-mode-requires c κs = (front c .place, omega (arith, front c .start, c .before .before .before .before .before .before .before .before .before .before .before .before .before .before .before .before .before .pre .1))
+read-mode-requires c κs =
+    let pre = c .before .before .before .before .before .before .before .before .before .before .before .before .before .before .before .before .before .pre in
+    (front c .place, omega (arith, front c .start, pre .1))
 
 enum-known-m : tie.Need-enum-known-m
 enum-known-m c = search needs
@@ -127,7 +130,9 @@ returns-5 c =
     cut-mode _ _ _ _ _ _ _ _ _ t (c .before .before .before .read-mode .ensures) (c .before .enum-told5 .given .1) (c .mode-refusal .ensures) refl
 
 cast-plan-of : tie.Need-cast-plan-of
-cast-plan-of c = let k1 = c .before .before .before .before .before .before .before .before .before .before .before .before .before .before .before .before in got-fits _ _ 6 (k1 .before .r .given .1) (k1 .before .before .before .read-u .ensures) tt
+cast-plan-of c =
+    let before = c .before .before .before .before .before .before .before .before .before .before .before .before .before .before .before .before in
+    let k1 = before in got-fits _ _ 6 (k1 .before .r .given .1) (k1 .before .before .before .read-u .ensures) tt
 
 cast-plan-of-2 : tie.Need-cast-plan-of-2
 cast-plan-of-2 c = search (got-fits, tt)

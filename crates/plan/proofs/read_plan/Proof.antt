@@ -24,7 +24,8 @@ head c =
     let k2 = c .before .before .before .before in
     let k1 = k2 .before .before .before .before in
     let s = k1 .before .before .before .before .before in
-    head-of (s .args .at) (s .pre .0) (k1 .before .before .before .read-u .ensures) (k1 .before .r .given .1) (k2 .before .before .before .read-u2 .ensures)
+    head-of (s .args .at) (s .pre .0) (k1 .before .before .before .read-u .ensures) (k1 .before .r .given .1)
+    (k2 .before .before .before .read-u2 .ensures)
     (k2 .before .r2 .given .1) (c .before .before .before .read-u3 .ensures) (c .before .r3 .given .1)
 
 read-u-requires : tie.Need-read-u-requires
@@ -91,7 +92,9 @@ cast-t24 : tie.Need-cast-t24
 cast-t24 c = search (got-fits, tt)
 
 read-fields-requires : tie.Need-read-fields-requires
-read-fields-requires c κs = (head c .place, omega (arith, head c .start, c .before .before .before .before .before .before .before .before .before .before .before .before .before .pre .1))
+read-fields-requires c κs =
+    let pre = c .before .before .before .before .before .before .before .before .before .before .before .before .before .pre in
+    (head c .place, omega (arith, head c .start, pre .1))
 
 enum-known-p : tie.Need-enum-known-p
 enum-known-p c = search needs
@@ -104,7 +107,8 @@ plan-refusal-requires c κs = search needs
 
 returns-4 : tie.Need-returns-4
 returns-4 c =
-    cut-fields _ _ _ _ _ _ _ (head (c .before .before .before .before)) (c .before .before .before .read-fields .ensures) (c .before .enum-told4 .given .1)
+    cut-fields _ _ _ _ _ _ _ (head (c .before .before .before .before)) (c .before .before .before .read-fields .ensures)
+    (c .before .enum-told4 .given .1)
     (c .plan-refusal .ensures) refl
 
 mul-closed : tie.Need-mul-closed
@@ -116,7 +120,8 @@ closed-requires c κs = search needs
 returns-5 : tie.Need-returns-5
 returns-5 c =
     let k = c .before in
-    got-fields _ _ _ _ _ _ _ (head (k .before .before .before .before)) (k .before .before .before .read-fields .ensures) (k .before .p .given .1) (c .closed .ensures)
+    got-fields _ _ _ _ _ _ _ (head (k .before .before .before .before)) (k .before .before .before .read-fields .ensures) (k .before .p .given .1)
+    (c .closed .ensures)
 
 pub read-plan-spec : {M : Type 1} → statement M
 read-plan-spec =

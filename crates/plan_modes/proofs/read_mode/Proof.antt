@@ -34,7 +34,8 @@ read-raw-requires c κs = search needs
 returns-4 : tie.Need-returns-4
 returns-4 c =
     let a = c .before .before .before .before .before .args in
-    mode-3 _ (a .end) (a .mode) (a .at) (c .before .before .before .if1 .left) (c .before .before .if2 .left) (c .before .if3 .left) (c .read-raw .ensures)
+    mode-3 _ (a .end) (a .mode) (a .at) (c .before .before .before .if1 .left) (c .before .before .if2 .left) (c .before .if3 .left)
+    (c .read-raw .ensures)
 
 pub read-mode-spec : {M : Type 1} → statement M
 read-mode-spec =

@@ -19,7 +19,8 @@ id : (c : tie.After-known-told) → let a = c .before .before .before .before .b
 id c = got-all _ _ 24 _ _ (c .before .before .before .read-u .ensures) (c .before .r .given .1)
 
 reserved : (c : tie.After-known-told2) → let k = c .before .before .before .before in
-    Got (k .before .before .before .before .before .args .s .now) (k .before .r .given .0 .1 .0) 3 (c .before .r2 .given .0 .0) (c .before .r2 .given .0 .1 .0)
+    Got (k .before .before .before .before .before .args .s .now) (k .before .r .given .0 .1 .0) 3 (c .before .r2 .given .0 .0)
+    (c .before .r2 .given .0 .1 .0)
 reserved c = got-all _ _ 3 _ _ (c .before .before .before .read-u2 .ensures) (c .before .r2 .given .1)
 
 -- all 32 bits are there: the place lies on a byte

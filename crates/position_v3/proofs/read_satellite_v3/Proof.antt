@@ -77,7 +77,8 @@ returns-2 c =
     let k = c .before .before .before .before in
     let o = k .before in
     let s = o .before .before .before .before .before in
-    meta-refused (s .args .s .now) (s .args .at) (s .pre .0) (front o) (k .read-metadata .ensures) (c .before .before .enum-told2 .given .1) (c .before .metadata-refusal .ensures) (c .refused2 .ensures)
+    meta-refused (s .args .s .now) (s .args .at) (s .pre .0) (front o) (k .read-metadata .ensures) (c .before .before .enum-told2 .given .1)
+    (c .before .metadata-refusal .ensures) (c .refused2 .ensures)
 
 read-ephemerides-requires : tie.Need-read-ephemerides-requires
 read-ephemerides-requires c κs =
@@ -102,7 +103,8 @@ returns-3 c =
     let k = c .before .before .before .before in
     let o = k .before .before .before .before .before in
     let s = o .before .before .before .before .before in
-    list-refused (s .args .s .now) (s .args .at) (s .pre .0) (front o) (meta (k .before)) (k .read-ephemerides .ensures) (c .before .before .enum-told3 .given .1) (c .before .part-refusal .ensures) (c .refused3 .ensures)
+    list-refused (s .args .s .now) (s .args .at) (s .pre .0) (front o) (meta (k .before)) (k .read-ephemerides .ensures)
+    (c .before .before .enum-told3 .given .1) (c .before .part-refusal .ensures) (c .refused3 .ensures)
 
 read-covariance-requires : tie.Need-read-covariance-requires
 read-covariance-requires c κs =
@@ -129,7 +131,8 @@ returns-4 c =
     let m = k .before .before .before .before .before in
     let o = m .before .before .before .before in
     let s = o .before .before .before .before .before in
-    closing-refused (s .args .s .now) (s .args .at) (s .pre .0) (front o) (meta m) (list (k .before)) (k .read-covariance .ensures) (c .before .before .enum-told4 .given .1) (c .before .covariance-refusal .ensures)
+    closing-refused (s .args .s .now) (s .args .at) (s .pre .0) (front o) (meta m) (list (k .before)) (k .read-covariance .ensures)
+    (c .before .before .enum-told4 .given .1) (c .before .covariance-refusal .ensures)
     (c .refused4 .ensures)
 
 elements-before-requires : tie.Need-elements-before-requires

@@ -20,7 +20,9 @@ same-length c = search needs
 
 returns : tie.Need-returns
 unfolding run signOf widthOf
-returns c = starts (when-yes _ _ _ _ end (eq-eqb _ _ (c .before .before .before .before .before .if1 .taken))) (starts (need-any _ _ 20 728 _) (c .before .before .read-run .ensures .0 names.covariance (λ _. end)))
+returns c =
+    starts (when-yes _ _ _ _ end (eq-eqb _ _ (c .before .before .before .before .before .if1 .taken)))
+    (starts (need-any _ _ 20 728 _) (c .before .before .read-run .ensures .0 names.covariance (λ _. end)))
 
 returns-2 : tie.Need-returns-2
 returns-2 c = starts (when-no _ _ _ _ _ (ne-eqb _ _ (c .if1 .left))) (record { to = stay (c .before .before .before .pre .within) })

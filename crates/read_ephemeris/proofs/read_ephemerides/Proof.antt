@@ -28,14 +28,25 @@ same-length c = search needs
 
 returns : tie.Need-returns
 unfolding run signOf widthOf
-returns c = stops (c .enum-told .given .1) (c .before .before .before .before .read-run .ensures .0 names.count (λ n. times n (ephemeris (c .before .before .before .before .before .before .before .before .before .args .accel)) (covariance (c .before .before .before .before .before .before .before .before .before .args .cov))))
+returns c =
+    let a = c .before .before .before .before .before .before .before .before .before .args in
+    stops (c .enum-told .given .1)
+    (c .before .before .before .before .read-run .ensures .0 names.count (λ n. times n (ephemeris (a .accel)) (covariance (a .cov))))
 
 slice-aggregate-read-counted : tie.Need-slice-aggregate-read-counted
 slice-aggregate-read-counted c = search needs
 
 read-counted-requires : tie.Need-read-counted-requires
 unfolding run signOf widthOf
-read-counted-requires c κs = (placed-on (c .before .before .before .before .before .before .before .before .before .before .before .before .before .pre) (done (c .before .before .before .before .head .given .1) (c .before .before .before .before .before .before .before .before .read-run .ensures .0 names.count (λ n. times n (ephemeris (c .before .before .before .before .before .before .before .before .before .before .before .before .before .args .accel)) (covariance (c .before .before .before .before .before .before .before .before .before .before .before .before .before .args .cov))))), tt)
+read-counted-requires c κs =
+    let a = c .before .before .before .before .before .before .before .before .before .before .before .before .before .args in
+    let pre = c .before .before .before .before .before .before .before .before .before .before .before .before .before .pre in
+    let read-run = c .before .before .before .before .before .before .before .before .read-run in (
+      placed-on pre
+          (done (c .before .before .before .before .head .given .1)
+          (read-run .ensures .0 names.count (λ n. times n (ephemeris (a .accel)) (covariance (a .cov))))),
+      tt,
+    )
 
 enum-known-moved : tie.Need-enum-known-moved
 enum-known-moved c = search needs
@@ -48,25 +59,63 @@ same-length-2 c = search needs
 
 returns-2 : tie.Need-returns-2
 unfolding run signOf widthOf
-returns-2 c = then (done (c .before .before .before .before .before .before .before .before .before .head .given .1) (c .before .before .before .before .before .before .before .before .before .before .before .before .before .read-run .ensures .0 names.count (λ n. times n (ephemeris (c .before .before .before .before .before .before .before .before .before .before .before .before .before .before .before .before .before .before .args .accel)) (covariance (c .before .before .before .before .before .before .before .before .before .before .before .before .before .before .before .before .before .before .args .cov))))) (stops (c .enum-told2 .given .1) (starts (entries-moved _ _ (c .before .before .before .before .before .before .before .before .before .before .before .before .before .before .before .before .before .before .args .accel) (c .before .before .before .before .before .before .before .before .before .head .given .0 .1 .1 .0) (covariance (c .before .before .before .before .before .before .before .before .before .before .before .before .before .before .before .before .before .before .args .cov)) (eq-eqb _ _ (c .before .before .before .before .before .before .before .if1 .taken))) (c .before .before .before .before .read-counted .ensures names.accelerated (covariance (c .before .before .before .before .before .before .before .before .before .before .before .before .before .before .before .before .before .before .args .cov)))))
+returns-2 c =
+    let a = c .before .before .before .before .before .before .before .before .before .before .before .before .before .before .before .before .before .before .args in
+    let head = c .before .before .before .before .before .before .before .before .before .head in
+    let if1 = c .before .before .before .before .before .before .before .if1 in
+    let read-run = c .before .before .before .before .before .before .before .before .before .before .before .before .before .read-run in
+    then (done (head .given .1) (read-run .ensures .0 names.count (λ n. times n (ephemeris (a .accel)) (covariance (a .cov)))))
+    (stops (c .enum-told2 .given .1)
+    (starts (entries-moved _ _ (a .accel) (head .given .0 .1 .1 .0) (covariance (a .cov)) (eq-eqb _ _ (if1 .taken)))
+    (c .before .before .before .before .read-counted .ensures names.accelerated (covariance (a .cov)))))
 
 read-covariance-requires : tie.Need-read-covariance-requires
 unfolding run signOf widthOf
-read-covariance-requires c κs = placed-on (c .before .before .before .before .before .before .before .before .before .before .before .before .before .before .before .before .before .before .before .before .pre) (go-on (done (c .before .before .before .before .before .before .before .before .before .before .before .head .given .1) (c .before .before .before .before .before .before .before .before .before .before .before .before .before .before .before .read-run .ensures .0 names.count (λ n. times n (ephemeris (c .before .before .before .before .before .before .before .before .before .before .before .before .before .before .before .before .before .before .before .before .args .accel)) (covariance (c .before .before .before .before .before .before .before .before .before .before .before .before .before .before .before .before .before .before .before .before .args .cov))))) (done (c .before .before .moved .given .1) (starts (entries-moved _ _ (c .before .before .before .before .before .before .before .before .before .before .before .before .before .before .before .before .before .before .before .before .args .accel) (c .before .before .before .before .before .before .before .before .before .before .before .head .given .0 .1 .1 .0) (covariance (c .before .before .before .before .before .before .before .before .before .before .before .before .before .before .before .before .before .before .before .before .args .cov)) (eq-eqb _ _ (c .before .before .before .before .before .before .before .before .before .if1 .taken))) (c .before .before .before .before .before .before .read-counted .ensures names.accelerated (covariance (c .before .before .before .before .before .before .before .before .before .before .before .before .before .before .before .before .before .before .before .before .args .cov))))))
+read-covariance-requires c κs =
+    let a = c .before .before .before .before .before .before .before .before .before .before .before .before .before .before .before .before .before .before .before .before .args in
+    let head = c .before .before .before .before .before .before .before .before .before .before .before .head in
+    let if1 = c .before .before .before .before .before .before .before .before .before .if1 in
+    let pre = c .before .before .before .before .before .before .before .before .before .before .before .before .before .before .before .before .before .before .before .before .pre in
+    let read-counted = c .before .before .before .before .before .before .read-counted in
+    let read-run = c .before .before .before .before .before .before .before .before .before .before .before .before .before .before .before .read-run in
+    placed-on pre
+    (go-on (done (head .given .1) (read-run .ensures .0 names.count (λ n. times n (ephemeris (a .accel)) (covariance (a .cov)))))
+    (done (c .before .before .moved .given .1)
+    (starts (entries-moved _ _ (a .accel) (head .given .0 .1 .1 .0) (covariance (a .cov)) (eq-eqb _ _ (if1 .taken)))
+    (read-counted .ensures names.accelerated (covariance (a .cov))))))
 
 same-length-3 : tie.Need-same-length-3
 same-length-3 c = search needs
 
 returns-3 : tie.Need-returns-3
 unfolding run signOf widthOf
-returns-3 c = then (go-on (done (c .before .before .before .before .before .before .before .before .before .before .before .before .before .before .head .given .1) (c .before .before .before .before .before .before .before .before .before .before .before .before .before .before .before .before .before .before .read-run .ensures .0 names.count (λ n. times n (ephemeris (c .before .before .before .before .before .before .before .before .before .before .before .before .before .before .before .before .before .before .before .before .before .before .before .args .accel)) (covariance (c .before .before .before .before .before .before .before .before .before .before .before .before .before .before .before .before .before .before .before .before .before .before .before .args .cov))))) (done (c .before .before .before .before .before .moved .given .1) (starts (entries-moved _ _ (c .before .before .before .before .before .before .before .before .before .before .before .before .before .before .before .before .before .before .before .before .before .before .before .args .accel) (c .before .before .before .before .before .before .before .before .before .before .before .before .before .before .head .given .0 .1 .1 .0) (covariance (c .before .before .before .before .before .before .before .before .before .before .before .before .before .before .before .before .before .before .before .before .before .before .before .args .cov)) (eq-eqb _ _ (c .before .before .before .before .before .before .before .before .before .before .before .before .if1 .taken))) (c .before .before .before .before .before .before .before .before .before .read-counted .ensures names.accelerated (covariance (c .before .before .before .before .before .before .before .before .before .before .before .before .before .before .before .before .before .before .before .before .before .before .before .args .cov)))))) (c .before .before .read-covariance .ensures)
+returns-3 c =
+    let a = c .before .before .before .before .before .before .before .before .before .before .before .before .before .before .before .before .before .before .before .before .before .before .before .args in
+    let head = c .before .before .before .before .before .before .before .before .before .before .before .before .before .before .head in
+    let if1 = c .before .before .before .before .before .before .before .before .before .before .before .before .if1 in
+    let read-counted = c .before .before .before .before .before .before .before .before .before .read-counted in
+    let read-run = c .before .before .before .before .before .before .before .before .before .before .before .before .before .before .before .before .before .before .read-run in
+    then
+    (go-on (done (head .given .1) (read-run .ensures .0 names.count (λ n. times n (ephemeris (a .accel)) (covariance (a .cov)))))
+    (done (c .before .before .before .before .before .moved .given .1)
+    (starts (entries-moved _ _ (a .accel) (head .given .0 .1 .1 .0) (covariance (a .cov)) (eq-eqb _ _ (if1 .taken)))
+    (read-counted .ensures names.accelerated (covariance (a .cov))))))
+    (c .before .before .read-covariance .ensures)
 
 slice-aggregate-read-counted-2 : tie.Need-slice-aggregate-read-counted-2
 slice-aggregate-read-counted-2 c = search needs
 
 read-counted-requires-2 : tie.Need-read-counted-requires-2
 unfolding run signOf widthOf
-read-counted-requires-2 c κs = (placed-on (c .before .before .before .before .before .before .before .before .before .before .before .before .before .pre) (done (c .before .before .before .before .head .given .1) (c .before .before .before .before .before .before .before .before .read-run .ensures .0 names.count (λ n. times n (ephemeris (c .before .before .before .before .before .before .before .before .before .before .before .before .before .args .accel)) (covariance (c .before .before .before .before .before .before .before .before .before .before .before .before .before .args .cov))))), tt)
+read-counted-requires-2 c κs =
+    let a = c .before .before .before .before .before .before .before .before .before .before .before .before .before .args in
+    let pre = c .before .before .before .before .before .before .before .before .before .before .before .before .before .pre in
+    let read-run = c .before .before .before .before .before .before .before .before .read-run in (
+      placed-on pre
+          (done (c .before .before .before .before .head .given .1)
+          (read-run .ensures .0 names.count (λ n. times n (ephemeris (a .accel)) (covariance (a .cov))))),
+      tt,
+    )
 
 enum-known-still : tie.Need-enum-known-still
 enum-known-still c = search needs
@@ -79,18 +128,48 @@ same-length-4 c = search needs
 
 returns-4 : tie.Need-returns-4
 unfolding run signOf widthOf
-returns-4 c = then (done (c .before .before .before .before .before .before .before .before .before .head .given .1) (c .before .before .before .before .before .before .before .before .before .before .before .before .before .read-run .ensures .0 names.count (λ n. times n (ephemeris (c .before .before .before .before .before .before .before .before .before .before .before .before .before .before .before .before .before .before .args .accel)) (covariance (c .before .before .before .before .before .before .before .before .before .before .before .before .before .before .before .before .before .before .args .cov))))) (stops (c .enum-told3 .given .1) (starts (entries-still _ _ (c .before .before .before .before .before .before .before .before .before .before .before .before .before .before .before .before .before .before .args .accel) (c .before .before .before .before .before .before .before .before .before .head .given .0 .1 .1 .0) (covariance (c .before .before .before .before .before .before .before .before .before .before .before .before .before .before .before .before .before .before .args .cov)) (ne-eqb _ _ (c .before .before .before .before .before .before .before .if1 .left))) (c .before .before .before .before .read-counted2 .ensures names.motion (covariance (c .before .before .before .before .before .before .before .before .before .before .before .before .before .before .before .before .before .before .args .cov)))))
+returns-4 c =
+    let a = c .before .before .before .before .before .before .before .before .before .before .before .before .before .before .before .before .before .before .args in
+    let head = c .before .before .before .before .before .before .before .before .before .head in
+    let if1 = c .before .before .before .before .before .before .before .if1 in
+    let read-run = c .before .before .before .before .before .before .before .before .before .before .before .before .before .read-run in
+    then (done (head .given .1) (read-run .ensures .0 names.count (λ n. times n (ephemeris (a .accel)) (covariance (a .cov)))))
+    (stops (c .enum-told3 .given .1)
+    (starts (entries-still _ _ (a .accel) (head .given .0 .1 .1 .0) (covariance (a .cov)) (ne-eqb _ _ (if1 .left)))
+    (c .before .before .before .before .read-counted2 .ensures names.motion (covariance (a .cov)))))
 
 read-covariance-requires-2 : tie.Need-read-covariance-requires-2
 unfolding run signOf widthOf
-read-covariance-requires-2 c κs = placed-on (c .before .before .before .before .before .before .before .before .before .before .before .before .before .before .before .before .before .before .before .before .pre) (go-on (done (c .before .before .before .before .before .before .before .before .before .before .before .head .given .1) (c .before .before .before .before .before .before .before .before .before .before .before .before .before .before .before .read-run .ensures .0 names.count (λ n. times n (ephemeris (c .before .before .before .before .before .before .before .before .before .before .before .before .before .before .before .before .before .before .before .before .args .accel)) (covariance (c .before .before .before .before .before .before .before .before .before .before .before .before .before .before .before .before .before .before .before .before .args .cov))))) (done (c .before .before .still .given .1) (starts (entries-still _ _ (c .before .before .before .before .before .before .before .before .before .before .before .before .before .before .before .before .before .before .before .before .args .accel) (c .before .before .before .before .before .before .before .before .before .before .before .head .given .0 .1 .1 .0) (covariance (c .before .before .before .before .before .before .before .before .before .before .before .before .before .before .before .before .before .before .before .before .args .cov)) (ne-eqb _ _ (c .before .before .before .before .before .before .before .before .before .if1 .left))) (c .before .before .before .before .before .before .read-counted2 .ensures names.motion (covariance (c .before .before .before .before .before .before .before .before .before .before .before .before .before .before .before .before .before .before .before .before .args .cov))))))
+read-covariance-requires-2 c κs =
+    let a = c .before .before .before .before .before .before .before .before .before .before .before .before .before .before .before .before .before .before .before .before .args in
+    let head = c .before .before .before .before .before .before .before .before .before .before .before .head in
+    let if1 = c .before .before .before .before .before .before .before .before .before .if1 in
+    let pre = c .before .before .before .before .before .before .before .before .before .before .before .before .before .before .before .before .before .before .before .before .pre in
+    let read-counted2 = c .before .before .before .before .before .before .read-counted2 in
+    let read-run = c .before .before .before .before .before .before .before .before .before .before .before .before .before .before .before .read-run in
+    placed-on pre
+    (go-on (done (head .given .1) (read-run .ensures .0 names.count (λ n. times n (ephemeris (a .accel)) (covariance (a .cov)))))
+    (done (c .before .before .still .given .1)
+    (starts (entries-still _ _ (a .accel) (head .given .0 .1 .1 .0) (covariance (a .cov)) (ne-eqb _ _ (if1 .left)))
+    (read-counted2 .ensures names.motion (covariance (a .cov))))))
 
 same-length-5 : tie.Need-same-length-5
 same-length-5 c = search needs
 
 returns-5 : tie.Need-returns-5
 unfolding run signOf widthOf
-returns-5 c = then (go-on (done (c .before .before .before .before .before .before .before .before .before .before .before .before .before .before .head .given .1) (c .before .before .before .before .before .before .before .before .before .before .before .before .before .before .before .before .before .before .read-run .ensures .0 names.count (λ n. times n (ephemeris (c .before .before .before .before .before .before .before .before .before .before .before .before .before .before .before .before .before .before .before .before .before .before .before .args .accel)) (covariance (c .before .before .before .before .before .before .before .before .before .before .before .before .before .before .before .before .before .before .before .before .before .before .before .args .cov))))) (done (c .before .before .before .before .before .still .given .1) (starts (entries-still _ _ (c .before .before .before .before .before .before .before .before .before .before .before .before .before .before .before .before .before .before .before .before .before .before .before .args .accel) (c .before .before .before .before .before .before .before .before .before .before .before .before .before .before .head .given .0 .1 .1 .0) (covariance (c .before .before .before .before .before .before .before .before .before .before .before .before .before .before .before .before .before .before .before .before .before .before .before .args .cov)) (ne-eqb _ _ (c .before .before .before .before .before .before .before .before .before .before .before .before .if1 .left))) (c .before .before .before .before .before .before .before .before .before .read-counted2 .ensures names.motion (covariance (c .before .before .before .before .before .before .before .before .before .before .before .before .before .before .before .before .before .before .before .before .before .before .before .args .cov)))))) (c .before .before .read-covariance2 .ensures)
+returns-5 c =
+    let a = c .before .before .before .before .before .before .before .before .before .before .before .before .before .before .before .before .before .before .before .before .before .before .before .args in
+    let head = c .before .before .before .before .before .before .before .before .before .before .before .before .before .before .head in
+    let if1 = c .before .before .before .before .before .before .before .before .before .before .before .before .if1 in
+    let read-counted2 = c .before .before .before .before .before .before .before .before .before .read-counted2 in
+    let read-run = c .before .before .before .before .before .before .before .before .before .before .before .before .before .before .before .before .before .before .read-run in
+    then
+    (go-on (done (head .given .1) (read-run .ensures .0 names.count (λ n. times n (ephemeris (a .accel)) (covariance (a .cov)))))
+    (done (c .before .before .before .before .before .still .given .1)
+    (starts (entries-still _ _ (a .accel) (head .given .0 .1 .1 .0) (covariance (a .cov)) (ne-eqb _ _ (if1 .left)))
+    (read-counted2 .ensures names.motion (covariance (a .cov))))))
+    (c .before .before .read-covariance2 .ensures)
 
 pub read-ephemerides-spec : {M : Type 1} → statement M
 read-ephemerides-spec =

@@ -33,14 +33,26 @@ same-length c = search needs
 
 returns : tie.Need-returns
 unfolding run signOf widthOf
-returns c = stops (c .enum-told .given .1) (c .before .before .before .before .read-run .ensures .0 names.accel (λ accel. bits "covariance_flag" 1 ((rest (c .before .before .before .before .before .before .before .before .before .args .meta) (c .before .before .before .before .before .before .before .before .before .args .start) (c .before .before .before .before .before .before .before .before .before .args .stop)) accel)))
+returns c =
+    let a = c .before .before .before .before .before .before .before .before .before .args in
+    stops (c .enum-told .given .1)
+    (c .before .before .before .before .read-run .ensures .0 names.accel
+    (λ accel. bits "covariance_flag" 1 ((rest (a .meta) (a .start) (a .stop)) accel)))
 
 slice-aggregate-read-run-2 : tie.Need-slice-aggregate-read-run-2
 slice-aggregate-read-run-2 c = search needs
 
 read-run-requires-2 : tie.Need-read-run-requires-2
 unfolding run signOf widthOf
-read-run-requires-2 c κs = (placed-on (c .before .before .before .before .before .before .before .before .before .before .before .before .pre) (done (c .before .before .before .fourth .given .1) (c .before .before .before .before .before .before .before .read-run .ensures .0 names.accel (λ accel. bits "covariance_flag" 1 ((rest (c .before .before .before .before .before .before .before .before .before .before .before .before .args .meta) (c .before .before .before .before .before .before .before .before .before .before .before .before .args .start) (c .before .before .before .before .before .before .before .before .before .before .before .before .args .stop)) accel)))), tt)
+read-run-requires-2 c κs =
+    let a = c .before .before .before .before .before .before .before .before .before .before .before .before .args in
+    let pre = c .before .before .before .before .before .before .before .before .before .before .before .before .pre in
+    let read-run = c .before .before .before .before .before .before .before .read-run in (
+      placed-on pre
+          (done (c .before .before .before .fourth .given .1)
+          (read-run .ensures .0 names.accel (λ accel. bits "covariance_flag" 1 ((rest (a .meta) (a .start) (a .stop)) accel)))),
+      tt,
+    )
 
 enum-known-fifth : tie.Need-enum-known-fifth
 enum-known-fifth c = search needs
@@ -53,11 +65,30 @@ same-length-2 c = search needs
 
 returns-2 : tie.Need-returns-2
 unfolding run signOf widthOf
-returns-2 c = then (done (c .before .before .before .before .before .before .before .before .fourth .given .1) (c .before .before .before .before .before .before .before .before .before .before .before .before .read-run .ensures .0 names.accel (λ accel. bits "covariance_flag" 1 ((rest (c .before .before .before .before .before .before .before .before .before .before .before .before .before .before .before .before .before .args .meta) (c .before .before .before .before .before .before .before .before .before .before .before .before .before .before .before .before .before .args .start) (c .before .before .before .before .before .before .before .before .before .before .before .before .before .before .before .before .before .args .stop)) accel)))) (stops (c .enum-told2 .given .1) (c .before .before .before .before .read-run2 .ensures .0 names.cov ((rest (c .before .before .before .before .before .before .before .before .before .before .before .before .before .before .before .before .before .args .meta) (c .before .before .before .before .before .before .before .before .before .before .before .before .before .before .before .before .before .args .start) (c .before .before .before .before .before .before .before .before .before .before .before .before .before .before .before .before .before .args .stop)) (c .before .before .before .before .before .before .before .before .fourth .given .0 .1 .1 .0))))
+returns-2 c =
+    let a = c .before .before .before .before .before .before .before .before .before .before .before .before .before .before .before .before .before .args in
+    let fourth = c .before .before .before .before .before .before .before .before .fourth in
+    let read-run = c .before .before .before .before .before .before .before .before .before .before .before .before .read-run in
+    then
+    (done (fourth .given .1) (read-run .ensures .0 names.accel (λ accel. bits "covariance_flag" 1 ((rest (a .meta) (a .start) (a .stop)) accel))))
+    (stops (c .enum-told2 .given .1)
+    (c .before .before .before .before .read-run2 .ensures .0 names.cov
+    ((rest (a .meta) (a .start) (a .stop)) (fourth .given .0 .1 .1 .0))))
 
 read-metadata-requires : tie.Need-read-metadata-requires
 unfolding run signOf widthOf
-read-metadata-requires c κs = placed-on (c .before .before .before .before .before .before .before .before .before .before .before .before .before .before .before .before .before .before .before .before .pre) (go-on (done (c .before .before .before .before .before .before .before .before .before .before .before .fourth .given .1) (c .before .before .before .before .before .before .before .before .before .before .before .before .before .before .before .read-run .ensures .0 names.accel (λ accel. bits "covariance_flag" 1 ((rest (c .before .before .before .before .before .before .before .before .before .before .before .before .before .before .before .before .before .before .before .before .args .meta) (c .before .before .before .before .before .before .before .before .before .before .before .before .before .before .before .before .before .before .before .before .args .start) (c .before .before .before .before .before .before .before .before .before .before .before .before .before .before .before .before .before .before .before .before .args .stop)) accel)))) (done (c .before .before .before .fifth .given .1) (c .before .before .before .before .before .before .before .read-run2 .ensures .0 names.cov ((rest (c .before .before .before .before .before .before .before .before .before .before .before .before .before .before .before .before .before .before .before .before .args .meta) (c .before .before .before .before .before .before .before .before .before .before .before .before .before .before .before .before .before .before .before .before .args .start) (c .before .before .before .before .before .before .before .before .before .before .before .before .before .before .before .before .before .before .before .before .args .stop)) (c .before .before .before .before .before .before .before .before .before .before .before .fourth .given .0 .1 .1 .0)))))
+read-metadata-requires c κs =
+    let a = c .before .before .before .before .before .before .before .before .before .before .before .before .before .before .before .before .before .before .before .before .args in
+    let fourth = c .before .before .before .before .before .before .before .before .before .before .before .fourth in
+    let pre = c .before .before .before .before .before .before .before .before .before .before .before .before .before .before .before .before .before .before .before .before .pre in
+    let read-run = c .before .before .before .before .before .before .before .before .before .before .before .before .before .before .before .read-run in
+    let read-run2 = c .before .before .before .before .before .before .before .read-run2 in
+    placed-on pre
+    (go-on
+    (done (fourth .given .1)
+    (read-run .ensures .0 names.accel (λ accel. bits "covariance_flag" 1 ((rest (a .meta) (a .start) (a .stop)) accel))))
+    (done (c .before .before .before .fifth .given .1)
+    (read-run2 .ensures .0 names.cov ((rest (a .meta) (a .start) (a .stop)) (fourth .given .0 .1 .1 .0)))))
 
 enum-known-about : tie.Need-enum-known-about
 enum-known-about c = search needs
@@ -70,29 +101,100 @@ same-length-3 c = search needs
 
 returns-3 : tie.Need-returns-3
 unfolding run signOf widthOf
-returns-3 c = then (go-on (done (c .before .before .before .before .before .before .before .before .before .before .before .before .before .before .before .before .fourth .given .1) (c .before .before .before .before .before .before .before .before .before .before .before .before .before .before .before .before .before .before .before .before .read-run .ensures .0 names.accel (λ accel. bits "covariance_flag" 1 ((rest (c .before .before .before .before .before .before .before .before .before .before .before .before .before .before .before .before .before .before .before .before .before .before .before .before .before .args .meta) (c .before .before .before .before .before .before .before .before .before .before .before .before .before .before .before .before .before .before .before .before .before .before .before .before .before .args .start) (c .before .before .before .before .before .before .before .before .before .before .before .before .before .before .before .before .before .before .before .before .before .before .before .before .before .args .stop)) accel)))) (done (c .before .before .before .before .before .before .before .before .fifth .given .1) (c .before .before .before .before .before .before .before .before .before .before .before .before .read-run2 .ensures .0 names.cov ((rest (c .before .before .before .before .before .before .before .before .before .before .before .before .before .before .before .before .before .before .before .before .before .before .before .before .before .args .meta) (c .before .before .before .before .before .before .before .before .before .before .before .before .before .before .before .before .before .before .before .before .before .before .before .before .before .args .start) (c .before .before .before .before .before .before .before .before .before .before .before .before .before .before .before .before .before .before .before .before .before .before .before .before .before .args .stop)) (c .before .before .before .before .before .before .before .before .before .before .before .before .before .before .before .before .fourth .given .0 .1 .1 .0))))) (stops (c .enum-told3 .given .1) (starts (when-yes _ _ _ _ _ (eq-eqb _ _ (c .before .before .before .before .before .before .if1 .taken))) (c .before .before .before .before .read-metadata .ensures (ephemerides (c .before .before .before .before .before .before .before .before .before .before .before .before .before .before .before .before .fourth .given .0 .1 .1 .0) (c .before .before .before .before .before .before .before .before .fifth .given .0 .1 .1 .0)))))
+returns-3 c =
+    let a = c .before .before .before .before .before .before .before .before .before .before .before .before .before .before .before .before .before .before .before .before .before .before .before .before .before .args in
+    let fifth = c .before .before .before .before .before .before .before .before .fifth in
+    let fourth = c .before .before .before .before .before .before .before .before .before .before .before .before .before .before .before .before .fourth in
+    let if1 = c .before .before .before .before .before .before .if1 in
+    let read-run = c .before .before .before .before .before .before .before .before .before .before .before .before .before .before .before .before .before .before .before .before .read-run in
+    let read-run2 = c .before .before .before .before .before .before .before .before .before .before .before .before .read-run2 in
+    then
+    (go-on
+    (done (fourth .given .1)
+    (read-run .ensures .0 names.accel (λ accel. bits "covariance_flag" 1 ((rest (a .meta) (a .start) (a .stop)) accel))))
+    (done (fifth .given .1) (read-run2 .ensures .0 names.cov ((rest (a .meta) (a .start) (a .stop)) (fourth .given .0 .1 .1 .0)))))
+    (stops (c .enum-told3 .given .1)
+    (starts (when-yes _ _ _ _ _ (eq-eqb _ _ (if1 .taken)))
+    (c .before .before .before .before .read-metadata .ensures
+    (ephemerides (fourth .given .0 .1 .1 .0) (fifth .given .0 .1 .1 .0)))))
 
 read-ephemerides-requires : tie.Need-read-ephemerides-requires
 unfolding run signOf widthOf
-read-ephemerides-requires c κs = placed-on (c .before .before .before .before .before .before .before .before .before .before .before .before .before .before .before .before .before .before .before .before .before .before .before .before .before .before .before .pre) (go-on (go-on (done (c .before .before .before .before .before .before .before .before .before .before .before .before .before .before .before .before .before .before .fourth .given .1) (c .before .before .before .before .before .before .before .before .before .before .before .before .before .before .before .before .before .before .before .before .before .before .read-run .ensures .0 names.accel (λ accel. bits "covariance_flag" 1 ((rest (c .before .before .before .before .before .before .before .before .before .before .before .before .before .before .before .before .before .before .before .before .before .before .before .before .before .before .before .args .meta) (c .before .before .before .before .before .before .before .before .before .before .before .before .before .before .before .before .before .before .before .before .before .before .before .before .before .before .before .args .start) (c .before .before .before .before .before .before .before .before .before .before .before .before .before .before .before .before .before .before .before .before .before .before .before .before .before .before .before .args .stop)) accel)))) (done (c .before .before .before .before .before .before .before .before .before .before .fifth .given .1) (c .before .before .before .before .before .before .before .before .before .before .before .before .before .before .read-run2 .ensures .0 names.cov ((rest (c .before .before .before .before .before .before .before .before .before .before .before .before .before .before .before .before .before .before .before .before .before .before .before .before .before .before .before .args .meta) (c .before .before .before .before .before .before .before .before .before .before .before .before .before .before .before .before .before .before .before .before .before .before .before .before .before .before .before .args .start) (c .before .before .before .before .before .before .before .before .before .before .before .before .before .before .before .before .before .before .before .before .before .before .before .before .before .before .before .args .stop)) (c .before .before .before .before .before .before .before .before .before .before .before .before .before .before .before .before .before .before .fourth .given .0 .1 .1 .0))))) (done (c .before .before .about .given .1) (starts (when-yes _ _ _ _ _ (eq-eqb _ _ (c .before .before .before .before .before .before .before .before .if1 .taken))) (c .before .before .before .before .before .before .read-metadata .ensures (ephemerides (c .before .before .before .before .before .before .before .before .before .before .before .before .before .before .before .before .before .before .fourth .given .0 .1 .1 .0) (c .before .before .before .before .before .before .before .before .before .before .fifth .given .0 .1 .1 .0))))))
+read-ephemerides-requires c κs =
+    let a = c .before .before .before .before .before .before .before .before .before .before .before .before .before .before .before .before .before .before .before .before .before .before .before .before .before .before .before .args in
+    let fifth = c .before .before .before .before .before .before .before .before .before .before .fifth in
+    let fourth = c .before .before .before .before .before .before .before .before .before .before .before .before .before .before .before .before .before .before .fourth in
+    let if1 = c .before .before .before .before .before .before .before .before .if1 in
+    let pre = c .before .before .before .before .before .before .before .before .before .before .before .before .before .before .before .before .before .before .before .before .before .before .before .before .before .before .before .pre in
+    let read-metadata = c .before .before .before .before .before .before .read-metadata in
+    let read-run = c .before .before .before .before .before .before .before .before .before .before .before .before .before .before .before .before .before .before .before .before .before .before .read-run in
+    let read-run2 = c .before .before .before .before .before .before .before .before .before .before .before .before .before .before .read-run2 in
+    placed-on pre
+    (go-on
+    (go-on
+    (done (fourth .given .1)
+    (read-run .ensures .0 names.accel (λ accel. bits "covariance_flag" 1 ((rest (a .meta) (a .start) (a .stop)) accel))))
+    (done (fifth .given .1) (read-run2 .ensures .0 names.cov ((rest (a .meta) (a .start) (a .stop)) (fourth .given .0 .1 .1 .0)))))
+    (done (c .before .before .about .given .1)
+    (starts (when-yes _ _ _ _ _ (eq-eqb _ _ (if1 .taken)))
+    (read-metadata .ensures (ephemerides (fourth .given .0 .1 .1 .0) (fifth .given .0 .1 .1 .0))))))
 
 same-length-4 : tie.Need-same-length-4
 same-length-4 c = search needs
 
 returns-4 : tie.Need-returns-4
 unfolding run signOf widthOf
-returns-4 c = then (go-on (go-on (done (c .before .before .before .before .before .before .before .before .before .before .before .before .before .before .before .before .before .before .before .before .before .fourth .given .1) (c .before .before .before .before .before .before .before .before .before .before .before .before .before .before .before .before .before .before .before .before .before .before .before .before .before .read-run .ensures .0 names.accel (λ accel. bits "covariance_flag" 1 ((rest (c .before .before .before .before .before .before .before .before .before .before .before .before .before .before .before .before .before .before .before .before .before .before .before .before .before .before .before .before .before .before .args .meta) (c .before .before .before .before .before .before .before .before .before .before .before .before .before .before .before .before .before .before .before .before .before .before .before .before .before .before .before .before .before .before .args .start) (c .before .before .before .before .before .before .before .before .before .before .before .before .before .before .before .before .before .before .before .before .before .before .before .before .before .before .before .before .before .before .args .stop)) accel)))) (done (c .before .before .before .before .before .before .before .before .before .before .before .before .before .fifth .given .1) (c .before .before .before .before .before .before .before .before .before .before .before .before .before .before .before .before .before .read-run2 .ensures .0 names.cov ((rest (c .before .before .before .before .before .before .before .before .before .before .before .before .before .before .before .before .before .before .before .before .before .before .before .before .before .before .before .before .before .before .args .meta) (c .before .before .before .before .before .before .before .before .before .before .before .before .before .before .before .before .before .before .before .before .before .before .before .before .before .before .before .before .before .before .args .start) (c .before .before .before .before .before .before .before .before .before .before .before .before .before .before .before .before .before .before .before .before .before .before .before .before .before .before .before .before .before .before .args .stop)) (c .before .before .before .before .before .before .before .before .before .before .before .before .before .before .before .before .before .before .before .before .before .fourth .given .0 .1 .1 .0))))) (done (c .before .before .before .before .before .about .given .1) (starts (when-yes _ _ _ _ _ (eq-eqb _ _ (c .before .before .before .before .before .before .before .before .before .before .before .if1 .taken))) (c .before .before .before .before .before .before .before .before .before .read-metadata .ensures (ephemerides (c .before .before .before .before .before .before .before .before .before .before .before .before .before .before .before .before .before .before .before .before .before .fourth .given .0 .1 .1 .0) (c .before .before .before .before .before .before .before .before .before .before .before .before .before .fifth .given .0 .1 .1 .0)))))) (c .before .before .read-ephemerides .ensures)
+returns-4 c =
+    let a = c .before .before .before .before .before .before .before .before .before .before .before .before .before .before .before .before .before .before .before .before .before .before .before .before .before .before .before .before .before .before .args in
+    let fifth = c .before .before .before .before .before .before .before .before .before .before .before .before .before .fifth in
+    let fourth = c .before .before .before .before .before .before .before .before .before .before .before .before .before .before .before .before .before .before .before .before .before .fourth in
+    let if1 = c .before .before .before .before .before .before .before .before .before .before .before .if1 in
+    let read-metadata = c .before .before .before .before .before .before .before .before .before .read-metadata in
+    let read-run = c .before .before .before .before .before .before .before .before .before .before .before .before .before .before .before .before .before .before .before .before .before .before .before .before .before .read-run in
+    let read-run2 = c .before .before .before .before .before .before .before .before .before .before .before .before .before .before .before .before .before .read-run2 in
+    then
+    (go-on
+    (go-on
+    (done (fourth .given .1)
+    (read-run .ensures .0 names.accel (λ accel. bits "covariance_flag" 1 ((rest (a .meta) (a .start) (a .stop)) accel))))
+    (done (fifth .given .1) (read-run2 .ensures .0 names.cov ((rest (a .meta) (a .start) (a .stop)) (fourth .given .0 .1 .1 .0)))))
+    (done (c .before .before .before .before .before .about .given .1)
+    (starts (when-yes _ _ _ _ _ (eq-eqb _ _ (if1 .taken)))
+    (read-metadata .ensures (ephemerides (fourth .given .0 .1 .1 .0) (fifth .given .0 .1 .1 .0))))))
+    (c .before .before .read-ephemerides .ensures)
 
 read-ephemerides-requires-2 : tie.Need-read-ephemerides-requires-2
 unfolding run signOf widthOf
-read-ephemerides-requires-2 c κs = placed-on (c .before .before .before .before .before .before .before .before .before .before .before .before .before .before .before .before .before .before .before .before .pre) (go-on (done (c .before .before .before .before .before .before .before .before .before .before .before .fourth .given .1) (c .before .before .before .before .before .before .before .before .before .before .before .before .before .before .before .read-run .ensures .0 names.accel (λ accel. bits "covariance_flag" 1 ((rest (c .before .before .before .before .before .before .before .before .before .before .before .before .before .before .before .before .before .before .before .before .args .meta) (c .before .before .before .before .before .before .before .before .before .before .before .before .before .before .before .before .before .before .before .before .args .start) (c .before .before .before .before .before .before .before .before .before .before .before .before .before .before .before .before .before .before .before .before .args .stop)) accel)))) (done (c .before .before .before .fifth .given .1) (c .before .before .before .before .before .before .before .read-run2 .ensures .0 names.cov ((rest (c .before .before .before .before .before .before .before .before .before .before .before .before .before .before .before .before .before .before .before .before .args .meta) (c .before .before .before .before .before .before .before .before .before .before .before .before .before .before .before .before .before .before .before .before .args .start) (c .before .before .before .before .before .before .before .before .before .before .before .before .before .before .before .before .before .before .before .before .args .stop)) (c .before .before .before .before .before .before .before .before .before .before .before .fourth .given .0 .1 .1 .0)))))
+read-ephemerides-requires-2 c κs =
+    let a = c .before .before .before .before .before .before .before .before .before .before .before .before .before .before .before .before .before .before .before .before .args in
+    let fourth = c .before .before .before .before .before .before .before .before .before .before .before .fourth in
+    let pre = c .before .before .before .before .before .before .before .before .before .before .before .before .before .before .before .before .before .before .before .before .pre in
+    let read-run = c .before .before .before .before .before .before .before .before .before .before .before .before .before .before .before .read-run in
+    let read-run2 = c .before .before .before .before .before .before .before .read-run2 in
+    placed-on pre
+    (go-on
+    (done (fourth .given .1)
+    (read-run .ensures .0 names.accel (λ accel. bits "covariance_flag" 1 ((rest (a .meta) (a .start) (a .stop)) accel))))
+    (done (c .before .before .before .fifth .given .1)
+    (read-run2 .ensures .0 names.cov ((rest (a .meta) (a .start) (a .stop)) (fourth .given .0 .1 .1 .0)))))
 
 same-length-5 : tie.Need-same-length-5
 same-length-5 c = search needs
 
 returns-5 : tie.Need-returns-5
 unfolding run signOf widthOf
-returns-5 c = then (go-on (done (c .before .before .before .before .before .before .before .before .before .before .before .before .before .before .fourth .given .1) (c .before .before .before .before .before .before .before .before .before .before .before .before .before .before .before .before .before .before .read-run .ensures .0 names.accel (λ accel. bits "covariance_flag" 1 ((rest (c .before .before .before .before .before .before .before .before .before .before .before .before .before .before .before .before .before .before .before .before .before .before .before .args .meta) (c .before .before .before .before .before .before .before .before .before .before .before .before .before .before .before .before .before .before .before .before .before .before .before .args .start) (c .before .before .before .before .before .before .before .before .before .before .before .before .before .before .before .before .before .before .before .before .before .before .before .args .stop)) accel)))) (done (c .before .before .before .before .before .before .fifth .given .1) (c .before .before .before .before .before .before .before .before .before .before .read-run2 .ensures .0 names.cov ((rest (c .before .before .before .before .before .before .before .before .before .before .before .before .before .before .before .before .before .before .before .before .before .before .before .args .meta) (c .before .before .before .before .before .before .before .before .before .before .before .before .before .before .before .before .before .before .before .before .before .before .before .args .start) (c .before .before .before .before .before .before .before .before .before .before .before .before .before .before .before .before .before .before .before .before .before .before .before .args .stop)) (c .before .before .before .before .before .before .before .before .before .before .before .before .before .before .fourth .given .0 .1 .1 .0))))) (starts (when-no _ _ _ _ _ (ne-eqb _ _ (c .before .before .before .before .if1 .left))) (c .before .before .read-ephemerides2 .ensures))
+returns-5 c =
+    let a = c .before .before .before .before .before .before .before .before .before .before .before .before .before .before .before .before .before .before .before .before .before .before .before .args in
+    let fifth = c .before .before .before .before .before .before .fifth in
+    let fourth = c .before .before .before .before .before .before .before .before .before .before .before .before .before .before .fourth in
+    let read-run = c .before .before .before .before .before .before .before .before .before .before .before .before .before .before .before .before .before .before .read-run in
+    let read-run2 = c .before .before .before .before .before .before .before .before .before .before .read-run2 in
+    then
+    (go-on
+    (done (fourth .given .1)
+    (read-run .ensures .0 names.accel (λ accel. bits "covariance_flag" 1 ((rest (a .meta) (a .start) (a .stop)) accel))))
+    (done (fifth .given .1) (read-run2 .ensures .0 names.cov ((rest (a .meta) (a .start) (a .stop)) (fourth .given .0 .1 .1 .0)))))
+    (starts (when-no _ _ _ _ _ (ne-eqb _ _ (c .before .before .before .before .if1 .left))) (c .before .before .read-ephemerides2 .ensures))
 
 pub read-flagged-spec : {M : Type 1} → statement M
 read-flagged-spec =

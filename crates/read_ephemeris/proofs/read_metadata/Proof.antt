@@ -27,11 +27,24 @@ same-length c = search needs
 
 returns : tie.Need-returns
 unfolding run signOf widthOf
-returns c = λ s. stops (c .enum-told .given .1) (starts (need-any _ _ 16 120 _) (c .before .before .before .before .read-run .ensures .0 names.metadata (λ _. usable 17 "usable_start_time" (c .before .before .before .before .before .before .before .before .before .args .start) (usable 18 "usable_stop_time" (c .before .before .before .before .before .before .before .before .before .args .stop) s))))
+returns c =
+    let a = c .before .before .before .before .before .before .before .before .before .args in
+    λ s. stops (c .enum-told .given .1)
+    (starts (need-any _ _ 16 120 _)
+    (c .before .before .before .before .read-run .ensures .0 names.metadata
+    (λ _. usable 17 "usable_start_time" (a .start) (usable 18 "usable_stop_time" (a .stop) s))))
 
 read-usable-requires : tie.Need-read-usable-requires
 unfolding run signOf widthOf
-read-usable-requires c κs = let s : Syntax = end in placed-on (c .before .before .before .before .before .before .before .before .before .before .before .pre) (done (c .before .before .times .given .1) (starts (need-any _ _ 16 120 _) (c .before .before .before .before .before .before .read-run .ensures .0 names.metadata (λ _. usable 17 "usable_start_time" (c .before .before .before .before .before .before .before .before .before .before .before .args .start) (usable 18 "usable_stop_time" (c .before .before .before .before .before .before .before .before .before .before .before .args .stop) s)))))
+read-usable-requires c κs =
+    let a = c .before .before .before .before .before .before .before .before .before .before .before .args in
+    let pre = c .before .before .before .before .before .before .before .before .before .before .before .pre in
+    let read-run = c .before .before .before .before .before .before .read-run in
+    let s : Syntax = end in placed-on pre
+    (done (c .before .before .times .given .1)
+    (starts (need-any _ _ 16 120 _)
+    (read-run .ensures .0 names.metadata
+    (λ _. usable 17 "usable_start_time" (a .start) (usable 18 "usable_stop_time" (a .stop) s)))))
 
 enum-known-first : tie.Need-enum-known-first
 enum-known-first c = search needs
@@ -44,18 +57,53 @@ same-length-2 c = search needs
 
 returns-2 : tie.Need-returns-2
 unfolding run signOf widthOf
-returns-2 c = λ s. then (done (c .before .before .before .before .before .before .before .times .given .1) (starts (need-any _ _ 16 120 _) (c .before .before .before .before .before .before .before .before .before .before .before .read-run .ensures .0 names.metadata (λ _. usable 17 "usable_start_time" (c .before .before .before .before .before .before .before .before .before .before .before .before .before .before .before .before .args .start) (usable 18 "usable_stop_time" (c .before .before .before .before .before .before .before .before .before .before .before .before .before .before .before .before .args .stop) s))))) (stops (c .enum-told2 .given .1) (c .before .before .before .before .read-usable .ensures 17 "usable_start_time" (usable 18 "usable_stop_time" (c .before .before .before .before .before .before .before .before .before .before .before .before .before .before .before .before .args .stop) s)))
+returns-2 c =
+    let a = c .before .before .before .before .before .before .before .before .before .before .before .before .before .before .before .before .args in
+    let read-run = c .before .before .before .before .before .before .before .before .before .before .before .read-run in
+    let times = c .before .before .before .before .before .before .before .times in
+    λ s. then
+    (done (times .given .1)
+    (starts (need-any _ _ 16 120 _)
+    (read-run .ensures .0 names.metadata
+    (λ _. usable 17 "usable_start_time" (a .start) (usable 18 "usable_stop_time" (a .stop) s)))))
+    (stops (c .enum-told2 .given .1)
+    (c .before .before .before .before .read-usable .ensures 17 "usable_start_time" (usable 18 "usable_stop_time" (a .stop) s)))
 
 read-usable-requires-2 : tie.Need-read-usable-requires-2
 unfolding run signOf widthOf
-read-usable-requires-2 c κs = let s : Syntax = end in placed-on (c .before .before .before .before .before .before .before .before .before .before .before .before .before .before .before .before .before .before .pre) (go-on (done (c .before .before .before .before .before .before .before .before .before .times .given .1) (starts (need-any _ _ 16 120 _) (c .before .before .before .before .before .before .before .before .before .before .before .before .before .read-run .ensures .0 names.metadata (λ _. usable 17 "usable_start_time" (c .before .before .before .before .before .before .before .before .before .before .before .before .before .before .before .before .before .before .args .start) (usable 18 "usable_stop_time" (c .before .before .before .before .before .before .before .before .before .before .before .before .before .before .before .before .before .before .args .stop) s))))) (done (c .before .before .first .given .1) (c .before .before .before .before .before .before .read-usable .ensures 17 "usable_start_time" (usable 18 "usable_stop_time" (c .before .before .before .before .before .before .before .before .before .before .before .before .before .before .before .before .before .before .args .stop) s))))
+read-usable-requires-2 c κs =
+    let a = c .before .before .before .before .before .before .before .before .before .before .before .before .before .before .before .before .before .before .args in
+    let pre = c .before .before .before .before .before .before .before .before .before .before .before .before .before .before .before .before .before .before .pre in
+    let read-run = c .before .before .before .before .before .before .before .before .before .before .before .before .before .read-run in
+    let read-usable = c .before .before .before .before .before .before .read-usable in
+    let times = c .before .before .before .before .before .before .before .before .before .times in
+    let s : Syntax = end in placed-on pre
+    (go-on
+    (done (times .given .1)
+    (starts (need-any _ _ 16 120 _)
+    (read-run .ensures .0 names.metadata
+    (λ _. usable 17 "usable_start_time" (a .start) (usable 18 "usable_stop_time" (a .stop) s)))))
+    (done (c .before .before .first .given .1) (read-usable .ensures 17 "usable_start_time" (usable 18 "usable_stop_time" (a .stop) s))))
 
 same-length-3 : tie.Need-same-length-3
 same-length-3 c = search needs
 
 returns-3 : tie.Need-returns-3
 unfolding run signOf widthOf
-returns-3 c = λ s. then (go-on (done (c .before .before .before .before .before .before .before .before .before .before .before .before .times .given .1) (starts (need-any _ _ 16 120 _) (c .before .before .before .before .before .before .before .before .before .before .before .before .before .before .before .before .read-run .ensures .0 names.metadata (λ _. usable 17 "usable_start_time" (c .before .before .before .before .before .before .before .before .before .before .before .before .before .before .before .before .before .before .before .before .before .args .start) (usable 18 "usable_stop_time" (c .before .before .before .before .before .before .before .before .before .before .before .before .before .before .before .before .before .before .before .before .before .args .stop) s))))) (done (c .before .before .before .before .before .first .given .1) (c .before .before .before .before .before .before .before .before .before .read-usable .ensures 17 "usable_start_time" (usable 18 "usable_stop_time" (c .before .before .before .before .before .before .before .before .before .before .before .before .before .before .before .before .before .before .before .before .before .args .stop) s)))) (c .before .before .read-usable2 .ensures 18 "usable_stop_time" s)
+returns-3 c =
+    let a = c .before .before .before .before .before .before .before .before .before .before .before .before .before .before .before .before .before .before .before .before .before .args in
+    let read-run = c .before .before .before .before .before .before .before .before .before .before .before .before .before .before .before .before .read-run in
+    let read-usable = c .before .before .before .before .before .before .before .before .before .read-usable in
+    let times = c .before .before .before .before .before .before .before .before .before .before .before .before .times in
+    λ s. then
+    (go-on
+    (done (times .given .1)
+    (starts (need-any _ _ 16 120 _)
+    (read-run .ensures .0 names.metadata
+    (λ _. usable 17 "usable_start_time" (a .start) (usable 18 "usable_stop_time" (a .stop) s)))))
+    (done (c .before .before .before .before .before .first .given .1)
+    (read-usable .ensures 17 "usable_start_time" (usable 18 "usable_stop_time" (a .stop) s))))
+    (c .before .before .read-usable2 .ensures 18 "usable_stop_time" s)
 
 pub read-metadata-spec : {M : Type 1} → statement M
 read-metadata-spec =

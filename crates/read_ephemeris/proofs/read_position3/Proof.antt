@@ -28,14 +28,25 @@ same-length c = search needs
 
 returns : tie.Need-returns
 unfolding position3 run signOf widthOf
-returns c = stops (c .enum-told .given .1) (c .before .before .before .before .read-run .ensures .0 names.satellite3 (λ meta. bits "usable_start_time_flag" 1 (λ start. bits "usable_stop_time_flag" 1 (flagged meta start))))
+returns c =
+    stops (c .enum-told .given .1)
+    (c .before .before .before .before .read-run .ensures .0 names.satellite3
+    (λ meta. bits "usable_start_time_flag" 1 (λ start. bits "usable_stop_time_flag" 1 (flagged meta start))))
 
 slice-aggregate-read-run-2 : tie.Need-slice-aggregate-read-run-2
 slice-aggregate-read-run-2 c = search needs
 
 read-run-requires-2 : tie.Need-read-run-requires-2
 unfolding run signOf widthOf
-read-run-requires-2 c κs = (placed-on (c .before .before .before .before .before .before .before .before .before .before .before .before .pre) (done (c .before .before .before .head .given .1) (c .before .before .before .before .before .before .before .read-run .ensures .0 names.satellite3 (λ meta. bits "usable_start_time_flag" 1 (λ start. bits "usable_stop_time_flag" 1 (flagged meta start))))), tt)
+read-run-requires-2 c κs =
+    let pre = c .before .before .before .before .before .before .before .before .before .before .before .before .pre in
+    let read-run = c .before .before .before .before .before .before .before .read-run in (
+      placed-on pre
+          (done (c .before .before .before .head .given .1)
+          (read-run .ensures .0 names.satellite3
+          (λ meta. bits "usable_start_time_flag" 1 (λ start. bits "usable_stop_time_flag" 1 (flagged meta start))))),
+      tt,
+    )
 
 enum-known-second : tie.Need-enum-known-second
 enum-known-second c = search needs
@@ -48,14 +59,36 @@ same-length-2 c = search needs
 
 returns-2 : tie.Need-returns-2
 unfolding position3 run signOf widthOf
-returns-2 c = then (done (c .before .before .before .before .before .before .before .before .head .given .1) (c .before .before .before .before .before .before .before .before .before .before .before .before .read-run .ensures .0 names.satellite3 (λ meta. bits "usable_start_time_flag" 1 (λ start. bits "usable_stop_time_flag" 1 (flagged meta start))))) (stops (c .enum-told2 .given .1) (c .before .before .before .before .read-run2 .ensures .0 names.start (λ start. bits "usable_stop_time_flag" 1 (flagged (c .before .before .before .before .before .before .before .before .head .given .0 .1 .1 .0) start))))
+returns-2 c =
+    let head = c .before .before .before .before .before .before .before .before .head in
+    let read-run = c .before .before .before .before .before .before .before .before .before .before .before .before .read-run in
+    then
+    (done (head .given .1)
+    (read-run .ensures .0 names.satellite3
+    (λ meta. bits "usable_start_time_flag" 1 (λ start. bits "usable_stop_time_flag" 1 (flagged meta start)))))
+    (stops (c .enum-told2 .given .1)
+    (c .before .before .before .before .read-run2 .ensures .0 names.start
+    (λ start. bits "usable_stop_time_flag" 1 (flagged (head .given .0 .1 .1 .0) start))))
 
 slice-aggregate-read-run-3 : tie.Need-slice-aggregate-read-run-3
 slice-aggregate-read-run-3 c = search needs
 
 read-run-requires-3 : tie.Need-read-run-requires-3
 unfolding run signOf widthOf
-read-run-requires-3 c κs = (placed-on (c .before .before .before .before .before .before .before .before .before .before .before .before .before .before .before .before .before .before .before .before .pre) (go-on (done (c .before .before .before .before .before .before .before .before .before .before .before .head .given .1) (c .before .before .before .before .before .before .before .before .before .before .before .before .before .before .before .read-run .ensures .0 names.satellite3 (λ meta. bits "usable_start_time_flag" 1 (λ start. bits "usable_stop_time_flag" 1 (flagged meta start))))) (done (c .before .before .before .second .given .1) (c .before .before .before .before .before .before .before .read-run2 .ensures .0 names.start (λ start. bits "usable_stop_time_flag" 1 (flagged (c .before .before .before .before .before .before .before .before .before .before .before .head .given .0 .1 .1 .0) start))))), tt)
+read-run-requires-3 c κs =
+    let head = c .before .before .before .before .before .before .before .before .before .before .before .head in
+    let pre = c .before .before .before .before .before .before .before .before .before .before .before .before .before .before .before .before .before .before .before .before .pre in
+    let read-run = c .before .before .before .before .before .before .before .before .before .before .before .before .before .before .before .read-run in
+    let read-run2 = c .before .before .before .before .before .before .before .read-run2 in (
+      placed-on pre
+          (go-on
+          (done (head .given .1)
+          (read-run .ensures .0 names.satellite3
+          (λ meta. bits "usable_start_time_flag" 1 (λ start. bits "usable_stop_time_flag" 1 (flagged meta start)))))
+          (done (c .before .before .before .second .given .1)
+          (read-run2 .ensures .0 names.start (λ start. bits "usable_stop_time_flag" 1 (flagged (head .given .0 .1 .1 .0) start))))),
+      tt,
+    )
 
 enum-known-third : tie.Need-enum-known-third
 enum-known-third c = search needs
@@ -68,19 +101,85 @@ same-length-3 c = search needs
 
 returns-3 : tie.Need-returns-3
 unfolding position3 run signOf widthOf
-returns-3 c = then (go-on (done (c .before .before .before .before .before .before .before .before .before .before .before .before .before .before .before .before .head .given .1) (c .before .before .before .before .before .before .before .before .before .before .before .before .before .before .before .before .before .before .before .before .read-run .ensures .0 names.satellite3 (λ meta. bits "usable_start_time_flag" 1 (λ start. bits "usable_stop_time_flag" 1 (flagged meta start))))) (done (c .before .before .before .before .before .before .before .before .second .given .1) (c .before .before .before .before .before .before .before .before .before .before .before .before .read-run2 .ensures .0 names.start (λ start. bits "usable_stop_time_flag" 1 (flagged (c .before .before .before .before .before .before .before .before .before .before .before .before .before .before .before .before .head .given .0 .1 .1 .0) start))))) (stops (c .enum-told3 .given .1) (c .before .before .before .before .read-run3 .ensures .0 names.stop (flagged (c .before .before .before .before .before .before .before .before .before .before .before .before .before .before .before .before .head .given .0 .1 .1 .0) (c .before .before .before .before .before .before .before .before .second .given .0 .1 .1 .0))))
+returns-3 c =
+    let head = c .before .before .before .before .before .before .before .before .before .before .before .before .before .before .before .before .head in
+    let read-run = c .before .before .before .before .before .before .before .before .before .before .before .before .before .before .before .before .before .before .before .before .read-run in
+    let read-run2 = c .before .before .before .before .before .before .before .before .before .before .before .before .read-run2 in
+    let second = c .before .before .before .before .before .before .before .before .second in
+    then
+    (go-on
+    (done (head .given .1)
+    (read-run .ensures .0 names.satellite3
+    (λ meta. bits "usable_start_time_flag" 1 (λ start. bits "usable_stop_time_flag" 1 (flagged meta start)))))
+    (done (second .given .1)
+    (read-run2 .ensures .0 names.start (λ start. bits "usable_stop_time_flag" 1 (flagged (head .given .0 .1 .1 .0) start)))))
+    (stops (c .enum-told3 .given .1)
+    (c .before .before .before .before .read-run3 .ensures .0 names.stop (flagged (head .given .0 .1 .1 .0) (second .given .0 .1 .1 .0))))
 
 read-flagged-requires : tie.Need-read-flagged-requires
 unfolding run signOf widthOf
-read-flagged-requires c κs = placed-on (c .before .before .before .before .before .before .before .before .before .before .before .before .before .before .before .before .before .before .before .before .before .before .before .before .before .before .before .pre) (go-on (go-on (done (c .before .before .before .before .before .before .before .before .before .before .before .before .before .before .before .before .before .before .head .given .1) (c .before .before .before .before .before .before .before .before .before .before .before .before .before .before .before .before .before .before .before .before .before .before .read-run .ensures .0 names.satellite3 (λ meta. bits "usable_start_time_flag" 1 (λ start. bits "usable_stop_time_flag" 1 (flagged meta start))))) (done (c .before .before .before .before .before .before .before .before .before .before .second .given .1) (c .before .before .before .before .before .before .before .before .before .before .before .before .before .before .read-run2 .ensures .0 names.start (λ start. bits "usable_stop_time_flag" 1 (flagged (c .before .before .before .before .before .before .before .before .before .before .before .before .before .before .before .before .before .before .head .given .0 .1 .1 .0) start))))) (done (c .before .before .third .given .1) (c .before .before .before .before .before .before .read-run3 .ensures .0 names.stop (flagged (c .before .before .before .before .before .before .before .before .before .before .before .before .before .before .before .before .before .before .head .given .0 .1 .1 .0) (c .before .before .before .before .before .before .before .before .before .before .second .given .0 .1 .1 .0)))))
+read-flagged-requires c κs =
+    let head = c .before .before .before .before .before .before .before .before .before .before .before .before .before .before .before .before .before .before .head in
+    let pre = c .before .before .before .before .before .before .before .before .before .before .before .before .before .before .before .before .before .before .before .before .before .before .before .before .before .before .before .pre in
+    let read-run = c .before .before .before .before .before .before .before .before .before .before .before .before .before .before .before .before .before .before .before .before .before .before .read-run in
+    let read-run2 = c .before .before .before .before .before .before .before .before .before .before .before .before .before .before .read-run2 in
+    let read-run3 = c .before .before .before .before .before .before .read-run3 in
+    let second = c .before .before .before .before .before .before .before .before .before .before .second in
+    placed-on pre
+    (go-on
+    (go-on
+    (done (head .given .1)
+    (read-run .ensures .0 names.satellite3
+    (λ meta. bits "usable_start_time_flag" 1 (λ start. bits "usable_stop_time_flag" 1 (flagged meta start)))))
+    (done (second .given .1)
+    (read-run2 .ensures .0 names.start
+    (λ start. bits "usable_stop_time_flag" 1 (flagged (head .given .0 .1 .1 .0) start)))))
+    (done (c .before .before .third .given .1)
+    (read-run3 .ensures .0 names.stop (flagged (head .given .0 .1 .1 .0) (second .given .0 .1 .1 .0)))))
 
 same-length-4 : tie.Need-same-length-4
 unfolding run signOf widthOf
-same-length-4 c = omega (arith, (go-on (go-on (done (c .before .before .before .before .before .before .before .before .before .before .before .before .before .before .before .before .before .before .before .before .before .head .given .1) (c .before .before .before .before .before .before .before .before .before .before .before .before .before .before .before .before .before .before .before .before .before .before .before .before .before .read-run .ensures .0 names.satellite3 (λ meta. bits "usable_start_time_flag" 1 (λ start. bits "usable_stop_time_flag" 1 (flagged meta start))))) (done (c .before .before .before .before .before .before .before .before .before .before .before .before .before .second .given .1) (c .before .before .before .before .before .before .before .before .before .before .before .before .before .before .before .before .before .read-run2 .ensures .0 names.start (λ start. bits "usable_stop_time_flag" 1 (flagged (c .before .before .before .before .before .before .before .before .before .before .before .before .before .before .before .before .before .before .before .before .before .head .given .0 .1 .1 .0) start))))) (done (c .before .before .before .before .before .third .given .1) (c .before .before .before .before .before .before .before .before .before .read-run3 .ensures .0 names.stop (flagged (c .before .before .before .before .before .before .before .before .before .before .before .before .before .before .before .before .before .before .before .before .before .head .given .0 .1 .1 .0) (c .before .before .before .before .before .before .before .before .before .before .before .before .before .second .given .0 .1 .1 .0))))) .long)
+same-length-4 c =
+    let head = c .before .before .before .before .before .before .before .before .before .before .before .before .before .before .before .before .before .before .before .before .before .head in
+    let read-run = c .before .before .before .before .before .before .before .before .before .before .before .before .before .before .before .before .before .before .before .before .before .before .before .before .before .read-run in
+    let read-run2 = c .before .before .before .before .before .before .before .before .before .before .before .before .before .before .before .before .before .read-run2 in
+    let read-run3 = c .before .before .before .before .before .before .before .before .before .read-run3 in
+    let second = c .before .before .before .before .before .before .before .before .before .before .before .before .before .second in
+    omega (
+      arith,
+      (go-on
+          (go-on
+          (done (head .given .1)
+          (read-run .ensures .0 names.satellite3
+          (λ meta. bits "usable_start_time_flag" 1
+          (λ start. bits "usable_stop_time_flag" 1 (flagged meta start)))))
+          (done (second .given .1)
+          (read-run2 .ensures .0 names.start
+          (λ start. bits "usable_stop_time_flag" 1 (flagged (head .given .0 .1 .1 .0) start)))))
+          (done (c .before .before .before .before .before .third .given .1)
+          (read-run3 .ensures .0 names.stop (flagged (head .given .0 .1 .1 .0) (second .given .0 .1 .1 .0))))) .long,
+    )
 
 returns-4 : tie.Need-returns-4
 unfolding position3 run signOf widthOf
-returns-4 c = then (go-on (go-on (done (c .before .before .before .before .before .before .before .before .before .before .before .before .before .before .before .before .before .before .before .before .before .head .given .1) (c .before .before .before .before .before .before .before .before .before .before .before .before .before .before .before .before .before .before .before .before .before .before .before .before .before .read-run .ensures .0 names.satellite3 (λ meta. bits "usable_start_time_flag" 1 (λ start. bits "usable_stop_time_flag" 1 (flagged meta start))))) (done (c .before .before .before .before .before .before .before .before .before .before .before .before .before .second .given .1) (c .before .before .before .before .before .before .before .before .before .before .before .before .before .before .before .before .before .read-run2 .ensures .0 names.start (λ start. bits "usable_stop_time_flag" 1 (flagged (c .before .before .before .before .before .before .before .before .before .before .before .before .before .before .before .before .before .before .before .before .before .head .given .0 .1 .1 .0) start))))) (done (c .before .before .before .before .before .third .given .1) (c .before .before .before .before .before .before .before .before .before .read-run3 .ensures .0 names.stop (flagged (c .before .before .before .before .before .before .before .before .before .before .before .before .before .before .before .before .before .before .before .before .before .head .given .0 .1 .1 .0) (c .before .before .before .before .before .before .before .before .before .before .before .before .before .second .given .0 .1 .1 .0))))) (c .before .before .read-flagged .ensures)
+returns-4 c =
+    let head = c .before .before .before .before .before .before .before .before .before .before .before .before .before .before .before .before .before .before .before .before .before .head in
+    let read-run = c .before .before .before .before .before .before .before .before .before .before .before .before .before .before .before .before .before .before .before .before .before .before .before .before .before .read-run in
+    let read-run2 = c .before .before .before .before .before .before .before .before .before .before .before .before .before .before .before .before .before .read-run2 in
+    let read-run3 = c .before .before .before .before .before .before .before .before .before .read-run3 in
+    let second = c .before .before .before .before .before .before .before .before .before .before .before .before .before .second in
+    then
+    (go-on
+    (go-on
+    (done (head .given .1)
+    (read-run .ensures .0 names.satellite3
+    (λ meta. bits "usable_start_time_flag" 1 (λ start. bits "usable_stop_time_flag" 1 (flagged meta start)))))
+    (done (second .given .1)
+    (read-run2 .ensures .0 names.start
+    (λ start. bits "usable_stop_time_flag" 1 (flagged (head .given .0 .1 .1 .0) start)))))
+    (done (c .before .before .before .before .before .third .given .1)
+    (read-run3 .ensures .0 names.stop (flagged (head .given .0 .1 .1 .0) (second .given .0 .1 .1 .0)))))
+    (c .before .before .read-flagged .ensures)
 
 pub read-position3-spec : {M : Type 1} → statement M
 read-position3-spec =

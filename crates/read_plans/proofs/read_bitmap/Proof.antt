@@ -34,7 +34,10 @@ slice-aggregate-read-run-2 : tie.Need-slice-aggregate-read-run-2
 slice-aggregate-read-run-2 c = search needs
 
 read-run-requires-2 : tie.Need-read-run-requires-2
-read-run-requires-2 c κs = (placed-on (c .before .before .before .before .before .before .before .before .before .before .before .before .pre) (done (c .before .before .before .size .given .1) (c .before .before .before .before .before .before .before .read-run .ensures .0 sizeNames afterSize)), tt)
+read-run-requires-2 c κs =
+    let pre = c .before .before .before .before .before .before .before .before .before .before .before .before .pre in
+    let read-run = c .before .before .before .before .before .before .before .read-run in
+    (placed-on pre (done (c .before .before .before .size .given .1) (read-run .ensures .0 sizeNames afterSize)), tt)
 
 enum-known-current : tie.Need-enum-known-current
 enum-known-current c = search needs
@@ -47,18 +50,44 @@ same-length-2 c = search needs
 
 returns-2 : tie.Need-returns-2
 unfolding run signOf widthOf
-returns-2 c = starts (need-any _ _ _ _ _) (then (done (c .before .before .before .before .before .before .before .before .size .given .1) (c .before .before .before .before .before .before .before .before .before .before .before .before .read-run .ensures .0 sizeNames afterSize)) (stops (c .enum-told2 .given .1) (c .before .before .before .before .read-run2 .ensures .0 slotNames (λ _. slots "slot_transmission_on" 12 (c .before .before .before .before .before .before .before .before .size .given .0 .1 .1 .0) end))))
+returns-2 c =
+    let read-run = c .before .before .before .before .before .before .before .before .before .before .before .before .read-run in
+    let size = c .before .before .before .before .before .before .before .before .size in
+    starts (need-any _ _ _ _ _)
+    (then (done (size .given .1) (read-run .ensures .0 sizeNames afterSize))
+    (stops (c .enum-told2 .given .1)
+    (c .before .before .before .before .read-run2 .ensures .0 slotNames
+    (λ _. slots "slot_transmission_on" 12 (size .given .0 .1 .1 .0) end))))
 
 read-slots-requires : tie.Need-read-slots-requires
 unfolding run signOf widthOf
-read-slots-requires c κs = (placed-on (c .before .before .before .before .before .before .before .before .before .before .before .before .before .before .before .before .before .before .before .pre) (go-on (done (c .before .before .before .before .before .before .before .before .before .before .size .given .1) (c .before .before .before .before .before .before .before .before .before .before .before .before .before .before .read-run .ensures .0 sizeNames afterSize)) (done (c .before .before .current .given .1) (c .before .before .before .before .before .before .read-run2 .ensures .0 slotNames (λ _. slots "slot_transmission_on" 12 (c .before .before .before .before .before .before .before .before .before .before .size .given .0 .1 .1 .0) end)))), omega (arith, last-of (c .before .before .before .before .before .before .before .before .before .before .size .given .1) (c .before .before .before .before .before .before .before .before .before .before .before .before .before .before .read-run .ensures .1)))
+read-slots-requires c κs =
+    let pre = c .before .before .before .before .before .before .before .before .before .before .before .before .before .before .before .before .before .before .before .pre in
+    let read-run = c .before .before .before .before .before .before .before .before .before .before .before .before .before .before .read-run in
+    let read-run2 = c .before .before .before .before .before .before .read-run2 in
+    let size = c .before .before .before .before .before .before .before .before .before .before .size in (
+      placed-on pre
+          (go-on (done (size .given .1) (read-run .ensures .0 sizeNames afterSize))
+          (done (c .before .before .current .given .1)
+          (read-run2 .ensures .0 slotNames (λ _. slots "slot_transmission_on" 12 (size .given .0 .1 .1 .0) end)))),
+      omega (arith, last-of (size .given .1) (read-run .ensures .1)),
+    )
 
 same-length-3 : tie.Need-same-length-3
 same-length-3 c = search needs
 
 returns-3 : tie.Need-returns-3
 unfolding run signOf widthOf
-returns-3 c = starts (need-any _ _ _ _ _) (then (go-on (done (c .before .before .before .before .before .before .before .before .before .before .before .before .before .size .given .1) (c .before .before .before .before .before .before .before .before .before .before .before .before .before .before .before .before .before .read-run .ensures .0 sizeNames afterSize)) (done (c .before .before .before .before .before .current .given .1) (c .before .before .before .before .before .before .before .before .before .read-run2 .ensures .0 slotNames (λ _. slots "slot_transmission_on" 12 (c .before .before .before .before .before .before .before .before .before .before .before .before .before .size .given .0 .1 .1 .0) end)))) (c .before .before .read-slots .ensures "slot_transmission_on" end))
+returns-3 c =
+    let read-run = c .before .before .before .before .before .before .before .before .before .before .before .before .before .before .before .before .before .read-run in
+    let read-run2 = c .before .before .before .before .before .before .before .before .before .read-run2 in
+    let size = c .before .before .before .before .before .before .before .before .before .before .before .before .before .size in
+    starts (need-any _ _ _ _ _)
+    (then
+    (go-on (done (size .given .1) (read-run .ensures .0 sizeNames afterSize))
+    (done (c .before .before .before .before .before .current .given .1)
+    (read-run2 .ensures .0 slotNames (λ _. slots "slot_transmission_on" 12 (size .given .0 .1 .1 .0) end))))
+    (c .before .before .read-slots .ensures "slot_transmission_on" end))
 
 pub read-bitmap-spec : {M : Type 1} → statement M
 read-bitmap-spec =

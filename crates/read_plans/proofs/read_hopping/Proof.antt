@@ -29,13 +29,17 @@ same-length c = search needs
 
 returns : tie.Need-returns
 unfolding run signOf widthOf
-returns c = (stops (c .enum-told .given .1) (c .before .before .before .before .read-run .ensures .0 modeNames afterMode), spared-no (c .enum-told .given .1))
+returns c =
+    (stops (c .enum-told .given .1) (c .before .before .before .before .read-run .ensures .0 modeNames afterMode), spared-no (c .enum-told .given .1))
 
 slice-aggregate-read-run-2 : tie.Need-slice-aggregate-read-run-2
 slice-aggregate-read-run-2 c = search needs
 
 read-run-requires-2 : tie.Need-read-run-requires-2
-read-run-requires-2 c κs = (placed-on (c .before .before .before .before .before .before .before .before .before .before .before .before .pre) (done (c .before .before .before .head .given .1) (c .before .before .before .before .before .before .before .read-run .ensures .0 modeNames afterMode)), tt)
+read-run-requires-2 c κs =
+    let pre = c .before .before .before .before .before .before .before .before .before .before .before .before .pre in
+    let read-run = c .before .before .before .before .before .before .before .read-run in
+    (placed-on pre (done (c .before .before .before .head .given .1) (read-run .ensures .0 modeNames afterMode)), tt)
 
 enum-known-clocks : tie.Need-enum-known-clocks
 enum-known-clocks c = search needs
@@ -48,19 +52,57 @@ same-length-2 c = search needs
 
 returns-2 : tie.Need-returns-2
 unfolding run signOf widthOf
-returns-2 c = (then (done (c .before .before .before .before .before .before .before .before .head .given .1) (c .before .before .before .before .before .before .before .before .before .before .before .before .read-run .ensures .0 modeNames afterMode)) (stops (c .enum-told2 .given .1) (c .before .before .before .before .read-run2 .ensures .0 timeNames (λ _. mode (c .before .before .before .before .before .before .before .before .head .given .0 .1 .1 .0)))), spared-no (c .enum-told2 .given .1))
+returns-2 c =
+    let head = c .before .before .before .before .before .before .before .before .head in
+    let read-run = c .before .before .before .before .before .before .before .before .before .before .before .before .read-run in (
+      then (done (head .given .1) (read-run .ensures .0 modeNames afterMode))
+          (stops (c .enum-told2 .given .1)
+          (c .before .before .before .before .read-run2 .ensures .0 timeNames (λ _. mode (head .given .0 .1 .1 .0)))),
+      spared-no (c .enum-told2 .given .1),
+    )
 
 read-mode-requires : tie.Need-read-mode-requires
 unfolding run signOf widthOf
-read-mode-requires c κs = placed-on (c .before .before .before .before .before .before .before .before .before .before .before .before .before .before .before .before .before .before .before .pre) (go-on (done (c .before .before .before .before .before .before .before .before .before .before .head .given .1) (c .before .before .before .before .before .before .before .before .before .before .before .before .before .before .read-run .ensures .0 modeNames afterMode)) (done (c .before .before .clocks .given .1) (c .before .before .before .before .before .before .read-run2 .ensures .0 timeNames (λ _. mode (c .before .before .before .before .before .before .before .before .before .before .head .given .0 .1 .1 .0)))))
+read-mode-requires c κs =
+    let head = c .before .before .before .before .before .before .before .before .before .before .head in
+    let pre = c .before .before .before .before .before .before .before .before .before .before .before .before .before .before .before .before .before .before .before .pre in
+    let read-run = c .before .before .before .before .before .before .before .before .before .before .before .before .before .before .read-run in
+    let read-run2 = c .before .before .before .before .before .before .read-run2 in
+    placed-on pre
+    (go-on (done (head .given .1) (read-run .ensures .0 modeNames afterMode))
+    (done (c .before .before .clocks .given .1) (read-run2 .ensures .0 timeNames (λ _. mode (head .given .0 .1 .1 .0)))))
 
 same-length-3 : tie.Need-same-length-3
 same-length-3 c = search needs
 
 returns-3 : tie.Need-returns-3
 unfolding run signOf widthOf sizeOf
-returns-3 c =
-    (then (go-on (done (c .before .before .before .before .before .before .before .before .before .before .before .before .before .head .given .1) (c .before .before .before .before .before .before .before .before .before .before .before .before .before .before .before .before .before .read-run .ensures .0 modeNames afterMode)) (done (c .before .before .before .before .before .clocks .given .1) (c .before .before .before .before .before .before .before .before .before .read-run2 .ensures .0 timeNames (λ _. mode (c .before .before .before .before .before .before .before .before .before .before .before .before .before .head .given .0 .1 .1 .0))))) (c .before .before .read-mode .ensures), spared (omega (arith, (run-moved (6 ∷ 2 ∷ []) (c .before .before .before .before .before .before .before .before .before .before .before .before .before .head .given .1) (c .before .before .before .before .before .before .before .before .before .before .before .before .before .before .before .before .before .before .before .before .before .before .pre .within) (c .before .before .before .before .before .before .before .before .before .before .before .before .before .before .before .before .before .read-run .ensures .0)), done (c .before .before .before .before .before .clocks .given .1) (c .before .before .before .before .before .before .before .before .before .read-run2 .ensures .0 timeNames (λ _. mode (c .before .before .before .before .before .before .before .before .before .before .before .before .before .head .given .0 .1 .1 .0))) .slack)) (c .before .before .read-mode .ensures))
+returns-3 c = (
+  then
+      (go-on
+      (done
+      (c .before .before .before .before .before .before .before .before .before .before .before .before .before .head .given .1)
+      (c .before .before .before .before .before .before .before .before .before .before .before .before .before .before .before .before .before .read-run .ensures .0
+      modeNames afterMode))
+      (done (c .before .before .before .before .before .clocks .given .1)
+      (c .before .before .before .before .before .before .before .before .before .read-run2 .ensures .0 timeNames
+      (λ _. mode
+      (c .before .before .before .before .before .before .before .before .before .before .before .before .before .head .given .0 .1 .1 .0)))))
+      (c .before .before .read-mode .ensures),
+  spared
+      (omega (
+        arith,
+        (run-moved (6 ∷ 2 ∷ [])
+            (c .before .before .before .before .before .before .before .before .before .before .before .before .before .head .given .1)
+            (c .before .before .before .before .before .before .before .before .before .before .before .before .before .before .before .before .before .before .before .before .before .before .pre .within)
+            (c .before .before .before .before .before .before .before .before .before .before .before .before .before .before .before .before .before .read-run .ensures .0)),
+        done (c .before .before .before .before .before .clocks .given .1)
+            (c .before .before .before .before .before .before .before .before .before .read-run2 .ensures .0 timeNames
+            (λ _. mode
+            (c .before .before .before .before .before .before .before .before .before .before .before .before .before .head .given .0 .1 .1 .0))) .slack,
+      ))
+      (c .before .before .read-mode .ensures),
+)
 
 pub read-hopping-spec : {M : Type 1} → statement M
 read-hopping-spec =

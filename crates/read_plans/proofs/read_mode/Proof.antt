@@ -20,7 +20,9 @@ same-length c = search needs
 
 returns : tie.Need-returns
 unfolding run signOf widthOf
-returns c = starts (when-yes _ _ _ _ _ (eq-eqb _ _ (c .before .before .before .before .before .if1 .taken))) (starts (need-any _ _ _ _ _) (c .before .before .read-run .ensures .0 dwellNames (λ _. end)))
+returns c =
+    starts (when-yes _ _ _ _ _ (eq-eqb _ _ (c .before .before .before .before .before .if1 .taken)))
+    (starts (need-any _ _ _ _ _) (c .before .before .read-run .ensures .0 dwellNames (λ _. end)))
 
 read-bitmap-requires : tie.Need-read-bitmap-requires
 read-bitmap-requires c κs = search needs
@@ -29,7 +31,9 @@ same-length-2 : tie.Need-same-length-2
 same-length-2 c = search needs
 
 returns-2 : tie.Need-returns-2
-returns-2 c = (starts (when-no _ _ _ _ _ (ne-eqb _ _ (c .before .before .before .before .before .if1 .left)))) (starts (when-yes _ _ _ _ _ (eq-eqb _ _ (c .before .before .before .before .if2 .taken))) (c .before .before .read-bitmap .ensures))
+returns-2 c =
+    (starts (when-no _ _ _ _ _ (ne-eqb _ _ (c .before .before .before .before .before .if1 .left))))
+    (starts (when-yes _ _ _ _ _ (eq-eqb _ _ (c .before .before .before .before .if2 .taken))) (c .before .before .read-bitmap .ensures))
 
 slice-aggregate-read-run-2 : tie.Need-slice-aggregate-read-run-2
 slice-aggregate-read-run-2 c = search needs
@@ -42,7 +46,13 @@ same-length-3 c = search needs
 
 returns-3 : tie.Need-returns-3
 unfolding run signOf widthOf
-returns-3 c = (starts (when-no _ _ _ _ _ (ne-eqb _ _ (c .before .before .before .before .before .before .before .if1 .left)))) ((starts (when-no _ _ _ _ _ (ne-eqb _ _ (c .before .before .before .before .before .before .if2 .left)))) (starts (when-yes _ _ _ _ _ (eq-eqb _ _ (c .before .before .before .before .before .if3 .taken))) (starts (need-any _ _ _ _ _) (c .before .before .read-run2 .ensures .0 gridNames (λ _. end)))))
+returns-3 c =
+    let if1 = c .before .before .before .before .before .before .before .if1 in
+    let if2 = c .before .before .before .before .before .before .if2 in
+    (starts (when-no _ _ _ _ _ (ne-eqb _ _ (if1 .left))))
+    ((starts (when-no _ _ _ _ _ (ne-eqb _ _ (if2 .left))))
+    (starts (when-yes _ _ _ _ _ (eq-eqb _ _ (c .before .before .before .before .before .if3 .taken)))
+    (starts (need-any _ _ _ _ _) (c .before .before .read-run2 .ensures .0 gridNames (λ _. end)))))
 
 read-raw-requires : tie.Need-read-raw-requires
 read-raw-requires c κs = search needs
@@ -51,7 +61,12 @@ same-length-4 : tie.Need-same-length-4
 same-length-4 c = search needs
 
 returns-4 : tie.Need-returns-4
-returns-4 c = (starts (when-no _ _ _ _ _ (ne-eqb _ _ (c .before .before .before .before .before .before .if1 .left)))) ((starts (when-no _ _ _ _ _ (ne-eqb _ _ (c .before .before .before .before .before .if2 .left)))) (starts (when-no _ _ _ _ _ (ne-eqb _ _ (c .before .before .before .before .if3 .left))) (c .before .before .read-raw .ensures "reserved")))
+returns-4 c =
+    let if1 = c .before .before .before .before .before .before .if1 in
+    (starts (when-no _ _ _ _ _ (ne-eqb _ _ (if1 .left))))
+    ((starts (when-no _ _ _ _ _ (ne-eqb _ _ (c .before .before .before .before .before .if2 .left))))
+    (starts (when-no _ _ _ _ _ (ne-eqb _ _ (c .before .before .before .before .if3 .left)))
+    (c .before .before .read-raw .ensures "reserved")))
 
 pub read-mode-spec : {M : Type 1} → statement M
 read-mode-spec =

@@ -16,7 +16,9 @@ slice-aggregate-read-run : tie.Need-slice-aggregate-read-run
 slice-aggregate-read-run c = search needs
 
 read-run-requires : tie.Need-read-run-requires
-read-run-requires c κs = (record { short = c .before .before .before .before .pre .short; within = c .before .before .before .before .pre .within; behind = omega (arith, c .before .before .before .before .pre .behind) }, tt)
+read-run-requires c κs =
+    let pre = c .before .before .before .before .pre in
+    (record { short = pre .short; within = pre .within; behind = omega (arith, pre .behind) }, tt)
 
 enum-known-head : tie.Need-enum-known-head
 enum-known-head c = search needs
@@ -33,11 +35,23 @@ returns c = taken-no (c .enum-told .given .1) (c .before .before .before .before
 
 add-inside : tie.Need-add-inside
 unfolding signOf widthOf sizeOf
-add-inside c = omega (arith, (run-moved (32 ∷ 4 ∷ []) (c .before .head .given .1) (c .before .before .before .before .before .before .before .before .before .before .pre .within) (c .before .before .before .before .before .read-run .ensures .0)), c .before .before .before .before .before .before .before .before .before .before .pre .behind, c .before .before .before .before .before .before .before .before .before .before .pre .short, c .before .before .before .before .before .before .before .before .before .before .pre .within)
+add-inside c =
+    let pre = c .before .before .before .before .before .before .before .before .before .before .pre in
+    omega (
+      arith,
+      (run-moved (32 ∷ 4 ∷ []) (c .before .head .given .1) (pre .within) (c .before .before .before .before .before .read-run .ensures .0)),
+      pre .behind,
+      pre .short,
+      pre .within,
+    )
 
 read-hopping-requires : tie.Need-read-hopping-requires
 unfolding signOf widthOf sizeOf
-read-hopping-requires c κs = record { short = c .before .before .before .before .before .before .before .before .before .before .before .pre .short; within = (done (c .before .before .head .given .1) (c .before .before .before .before .before .before .read-run .ensures .0 planNames (λ _. plan "plan_length" hopping))) .within; behind = omega (arith, (run-moved (32 ∷ 4 ∷ []) (c .before .before .head .given .1) (c .before .before .before .before .before .before .before .before .before .before .before .pre .within) (c .before .before .before .before .before .before .read-run .ensures .0)), c .before .before .before .before .before .before .before .before .before .before .before .pre .behind) }
+read-hopping-requires c κs =
+    let pre = c .before .before .before .before .before .before .before .before .before .before .before .pre in
+    let read-run = c .before .before .before .before .before .before .read-run in
+    record
+    { short = pre .short; within = (done (c .before .before .head .given .1) (read-run .ensures .0 planNames (λ _. plan "plan_length" hopping))) .within; behind = omega (arith, (run-moved (32 ∷ 4 ∷ []) (c .before .before .head .given .1) (pre .within) (read-run .ensures .0)), pre .behind) }
 
 enum-known-hopping : tie.Need-enum-known-hopping
 enum-known-hopping c = search needs
@@ -50,21 +64,44 @@ same-length-2 c = search needs
 
 returns-2 : tie.Need-returns-2
 unfolding beamhopping run signOf widthOf
-returns-2 c = plan-no (done (c .before .before .before .before .before .before .before .head .given .1) (c .before .before .before .before .before .before .before .before .before .before .before .read-run .ensures .0 planNames (λ _. plan "plan_length" hopping))) (c .enum-told2 .given .1) (c .before .before .before .before .read-hopping .ensures .0)
+returns-2 c =
+    let head = c .before .before .before .before .before .before .before .head in
+    let read-run = c .before .before .before .before .before .before .before .before .before .before .before .read-run in
+    plan-no (done (head .given .1) (read-run .ensures .0 planNames (λ _. plan "plan_length" hopping))) (c .enum-told2 .given .1)
+    (c .before .before .before .before .read-hopping .ensures .0)
 
 sub-lay : tie.Need-sub-lay
-sub-lay c = omega (arith, (done (c .before .before .hopping .given .1) (c .before .before .before .before .before .before .read-hopping .ensures .0)) .size)
+sub-lay c =
+    let read-hopping = c .before .before .before .before .before .before .read-hopping in
+    omega (arith, (done (c .before .before .hopping .given .1) (read-hopping .ensures .0)) .size)
 
 lay-requires : tie.Need-lay-requires
 unfolding signOf widthOf sizeOf
-lay-requires c κs = omega (arith, (run-moved (32 ∷ 4 ∷ []) (c .before .before .before .before .before .before .before .before .before .head .given .1) (c .before .before .before .before .before .before .before .before .before .before .before .before .before .before .before .before .before .before .pre .within) (c .before .before .before .before .before .before .before .before .before .before .before .before .before .read-run .ensures .0)), c .before .before .before .before .before .before .before .before .before .before .before .before .before .before .before .before .before .before .pre .behind, c .before .before .before .before .before .before .before .before .before .before .before .before .before .before .before .before .before .before .pre .short, c .before .before .before .before .before .before .before .before .before .before .before .before .before .before .before .before .before .before .pre .within)
+lay-requires c κs =
+    let head = c .before .before .before .before .before .before .before .before .before .head in
+    let pre = c .before .before .before .before .before .before .before .before .before .before .before .before .before .before .before .before .before .before .pre in
+    let read-run = c .before .before .before .before .before .before .before .before .before .before .before .before .before .read-run in
+    omega (arith, (run-moved (32 ∷ 4 ∷ []) (head .given .1) (pre .within) (read-run .ensures .0)), pre .behind, pre .short, pre .within)
 
 same-length-3 : tie.Need-same-length-3
 same-length-3 c = search needs
 
 returns-3 : tie.Need-returns-3
 unfolding beamhopping run signOf widthOf sizeOf
-returns-3 c = record { to = plan-took (done (c .before .before .before .before .before .before .before .before .before .before .before .before .head .given .1) (c .before .before .before .before .before .before .before .before .before .before .before .before .before .before .before .before .read-run .ensures .0 planNames (λ _. plan "plan_length" hopping))) (done (c .before .before .before .before .before .hopping .given .1) (c .before .before .before .before .before .before .before .before .before .read-hopping .ensures .0)) (c .before .before .lay .ensures) (search needs) (omega (arith, (run-moved (32 ∷ 4 ∷ []) (c .before .before .before .before .before .before .before .before .before .before .before .before .head .given .1) (c .before .before .before .before .before .before .before .before .before .before .before .before .before .before .before .before .before .before .before .before .before .pre .within) (c .before .before .before .before .before .before .before .before .before .before .before .before .before .before .before .before .read-run .ensures .0)), spared-done (c .before .before .before .before .before .hopping .given .1) (c .before .before .before .before .before .before .before .before .before .read-hopping .ensures .1))) }
+returns-3 c =
+    let head = c .before .before .before .before .before .before .before .before .before .before .before .before .head in
+    let hopping′ = c .before .before .before .before .before .hopping in
+    let pre = c .before .before .before .before .before .before .before .before .before .before .before .before .before .before .before .before .before .before .before .before .before .pre in
+    let read-hopping = c .before .before .before .before .before .before .before .before .before .read-hopping in
+    let read-run = c .before .before .before .before .before .before .before .before .before .before .before .before .before .before .before .before .read-run in
+    record {
+      to = plan-took (done (head .given .1) (read-run .ensures .0 planNames (λ _. plan "plan_length" hopping))) (done (hopping′ .given .1) (read-hopping .ensures .0)) (c .before .before .lay .ensures) (search needs) (omega (
+        arith,
+        (run-moved (32 ∷ 4 ∷ []) (head .given .1) (pre .within) (read-run .ensures .0)),
+        spared-done (hopping′ .given .1)
+            (read-hopping .ensures .1),
+      ));
+    }
 
 pub read-plan-spec : {M : Type 1} → statement M
 read-plan-spec =

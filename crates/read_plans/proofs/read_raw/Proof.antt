@@ -22,7 +22,9 @@ sub-if2 : tie.Need-sub-if2
 sub-if2 c = search needs
 
 returns-2 : tie.Need-returns-2
-returns-2 c = λ nm. record { to = raw-missing _ _ nm (c .before .before .before .before .before .pre .within) _ (c .before .before .if1 .left) (c .before .get-be .ensures) (c .if2 .taken) }
+returns-2 c =
+    λ nm. record
+    { to = raw-missing _ _ nm (c .before .before .before .before .before .pre .within) _ (c .before .before .if1 .left) (c .before .get-be .ensures) (c .if2 .taken) }
 
 add-end : tie.Need-add-end
 add-end c = search needs
@@ -49,7 +51,13 @@ same-length : tie.Need-same-length
 same-length c = search needs
 
 returns-3 : tie.Need-returns-3
-returns-3 c = λ nm. record { to = raw-came _ _ nm (c .before .before .before .before .before .before .before .before .before .before .pre .within) _ (c .before .before .before .before .before .before .before .if1 .left) (c .before .before .before .before .before .before .get-be .ensures) (c .before .before .before .before .before .if2 .left) (part-of (c .before .before .before .before .before .before .before .before .before .before .args .ledger .now) (c .before .before .before .before .before .before .before .before .before .before .args .place + 2) (c .before .before .before .before .before .before .get-be .result)) (c .before .before .lay-bytes .ensures) (search needs) }
+returns-3 c =
+    let a = c .before .before .before .before .before .before .before .before .before .before .args in
+    let get-be = c .before .before .before .before .before .before .get-be in
+    let if1 = c .before .before .before .before .before .before .before .if1 in
+    let pre = c .before .before .before .before .before .before .before .before .before .before .pre in
+    λ nm. record
+    { to = raw-came _ _ nm (pre .within) _ (if1 .left) (get-be .ensures) (c .before .before .before .before .before .if2 .left) (part-of (a .ledger .now) (a .place + 2) (get-be .result)) (c .before .before .lay-bytes .ensures) (search needs) }
 
 pub read-raw-spec : {M : Type 1} → statement M
 read-raw-spec =

@@ -38,7 +38,11 @@ value-at-requires : tie.Need-value-at-requires
 value-at-requires c κs = search needs
 
 returns-2 : tie.Need-returns-2
-returns-2 c = λ nm s. record { to = slots-wrong _ _ _ _ (c .before .before .before .before .before .before .pre .0 .within) (c .before .before .before .if1 .left) (part-of (c .before .before .before .before .before .before .args .ledger .now) (c .before .before .before .before .before .before .args .place) (wholes (c .before .before .before .before .before .before .args .m))) nm s (λ z. c .if2 .taken (c .before .value-at .ensures ∙ z)) }
+returns-2 c =
+    let a = c .before .before .before .before .before .before .args in
+    let pre = c .before .before .before .before .before .before .pre in
+    λ nm s. record
+    { to = slots-wrong _ _ _ _ (pre .0 .within) (c .before .before .before .if1 .left) (part-of (a .ledger .now) (a .place) (wholes (a .m))) nm s (λ z. c .if2 .taken (c .before .value-at .ensures ∙ z)) }
 
 lay-bytes-requires : tie.Need-lay-bytes-requires
 lay-bytes-requires c κs = search needs
@@ -53,7 +57,12 @@ same-length : tie.Need-same-length
 same-length c = search needs
 
 returns-3 : tie.Need-returns-3
-returns-3 c = λ nm s. record { to = slots-came _ _ _ _ (c .before .before .before .before .before .before .before .before .before .before .pre .0 .within) (c .before .before .before .before .before .before .before .if1 .left) (part-of (c .before .before .before .before .before .before .before .before .before .before .args .ledger .now) (c .before .before .before .before .before .before .before .before .before .before .args .place) (wholes (c .before .before .before .before .before .before .before .before .before .before .args .m))) nm s (sym (c .before .before .before .before .before .value-at .ensures) ∙ c .before .before .before .before .if2 .left) (c .before .before .lay-bytes .ensures) (search needs) }
+returns-3 c =
+    let a = c .before .before .before .before .before .before .before .before .before .before .args in
+    let if1 = c .before .before .before .before .before .before .before .if1 in
+    let pre = c .before .before .before .before .before .before .before .before .before .before .pre in
+    λ nm s. record
+    { to = slots-came _ _ _ _ (pre .0 .within) (if1 .left) (part-of (a .ledger .now) (a .place) (wholes (a .m))) nm s (sym (c .before .before .before .before .before .value-at .ensures) ∙ c .before .before .before .before .if2 .left) (c .before .before .lay-bytes .ensures) (search needs) }
 
 pub read-slots-spec : {M : Type 1} → statement M
 read-slots-spec =

@@ -35,14 +35,18 @@ same-length c = search needs
 
 returns : tie.Need-returns
 unfolding fragment run signOf widthOf
-returns c = stops (c .enum-told .given .1) (c .before .before .before .before .read-run .ensures .0 names.cell (λ v. u "last_occurrence" 1 (middle v)))
+returns c =
+    stops (c .enum-told .given .1) (c .before .before .before .before .read-run .ensures .0 names.cell (λ v. u "last_occurrence" 1 (middle v)))
 
 slice-aggregate-read-run-2 : tie.Need-slice-aggregate-read-run-2
 slice-aggregate-read-run-2 c = search needs
 
 read-run-requires-2 : tie.Need-read-run-requires-2
 unfolding run signOf widthOf
-read-run-requires-2 c κs = (placed-on (c .before .before .before .before .before .before .before .before .before .before .before .before .pre) (done (c .before .before .before .cell .given .1) (c .before .before .before .before .before .before .before .read-run .ensures .0 names.cell (λ v. u "last_occurrence" 1 (middle v)))), tt)
+read-run-requires-2 c κs =
+    let pre = c .before .before .before .before .before .before .before .before .before .before .before .before .pre in
+    let read-run = c .before .before .before .before .before .before .before .read-run in
+    (placed-on pre (done (c .before .before .before .cell .given .1) (read-run .ensures .0 names.cell (λ v. u "last_occurrence" 1 (middle v)))), tt)
 
 enum-known-flag : tie.Need-enum-known-flag
 enum-known-flag c = search needs
@@ -55,14 +59,29 @@ same-length-2 c = search needs
 
 returns-2 : tie.Need-returns-2
 unfolding fragment run signOf widthOf
-returns-2 c = then (done (c .before .before .before .before .before .before .before .before .cell .given .1) (c .before .before .before .before .before .before .before .before .before .before .before .before .read-run .ensures .0 names.cell (λ v. u "last_occurrence" 1 (middle v)))) (stops (c .enum-told2 .given .1) (c .before .before .before .before .read-run2 .ensures .0 names.last (λ _. middle (c .before .before .before .before .before .before .before .before .cell .given .0 .1 .1 .0))))
+returns-2 c =
+    let cell = c .before .before .before .before .before .before .before .before .cell in
+    let read-run = c .before .before .before .before .before .before .before .before .before .before .before .before .read-run in
+    then (done (cell .given .1) (read-run .ensures .0 names.cell (λ v. u "last_occurrence" 1 (middle v))))
+    (stops (c .enum-told2 .given .1)
+    (c .before .before .before .before .read-run2 .ensures .0 names.last (λ _. middle (cell .given .0 .1 .1 .0))))
 
 slice-aggregate-read-run-3 : tie.Need-slice-aggregate-read-run-3
 slice-aggregate-read-run-3 c = search needs
 
 read-run-requires-3 : tie.Need-read-run-requires-3
 unfolding run signOf widthOf
-read-run-requires-3 c κs = (placed-on (c .before .before .before .before .before .before .before .before .before .before .before .before .before .before .before .before .before .before .before .before .before .pre) (go-on (done (c .before .before .before .before .before .before .before .before .before .before .before .before .cell .given .1) (c .before .before .before .before .before .before .before .before .before .before .before .before .before .before .before .before .read-run .ensures .0 names.cell (λ v. u "last_occurrence" 1 (middle v)))) (done (c .before .before .before .before .flag .given .1) (c .before .before .before .before .before .before .before .before .read-run2 .ensures .0 names.last (λ _. middle (c .before .before .before .before .before .before .before .before .before .before .before .before .cell .given .0 .1 .1 .0))))), tt)
+read-run-requires-3 c κs =
+    let cell = c .before .before .before .before .before .before .before .before .before .before .before .before .cell in
+    let pre = c .before .before .before .before .before .before .before .before .before .before .before .before .before .before .before .before .before .before .before .before .before .pre in
+    let read-run = c .before .before .before .before .before .before .before .before .before .before .before .before .before .before .before .before .read-run in
+    let read-run2 = c .before .before .before .before .before .before .before .before .read-run2 in (
+      placed-on pre
+          (go-on (done (cell .given .1) (read-run .ensures .0 names.cell (λ v. u "last_occurrence" 1 (middle v))))
+          (done (c .before .before .before .before .flag .given .1)
+          (read-run2 .ensures .0 names.last (λ _. middle (cell .given .0 .1 .1 .0))))),
+      tt,
+    )
 
 enum-known-centre : tie.Need-enum-known-centre
 enum-known-centre c = search needs
@@ -75,26 +94,90 @@ same-length-3 c = search needs
 
 returns-3 : tie.Need-returns-3
 unfolding fragment run signOf widthOf
-returns-3 c = then (go-on (done (c .before .before .before .before .before .before .before .before .before .before .before .before .before .before .before .before .before .cell .given .1) (c .before .before .before .before .before .before .before .before .before .before .before .before .before .before .before .before .before .before .before .before .before .read-run .ensures .0 names.cell (λ v. u "last_occurrence" 1 (middle v)))) (done (c .before .before .before .before .before .before .before .before .before .flag .given .1) (c .before .before .before .before .before .before .before .before .before .before .before .before .before .read-run2 .ensures .0 names.last (λ _. middle (c .before .before .before .before .before .before .before .before .before .before .before .before .before .before .before .before .before .cell .given .0 .1 .1 .0))))) (stops (c .enum-told3 .given .1) ((starts (when-yes _ _ _ _ _ (eq-eqb _ _ (c .before .before .before .before .before .before .before .if1 .taken)))) (starts (need-any _ _ 5 76 _) (c .before .before .before .before .read-run3 .ensures .0 names.centre lists))))
+returns-3 c =
+    let cell = c .before .before .before .before .before .before .before .before .before .before .before .before .before .before .before .before .before .cell in
+    let flag = c .before .before .before .before .before .before .before .before .before .flag in
+    let if1 = c .before .before .before .before .before .before .before .if1 in
+    let read-run = c .before .before .before .before .before .before .before .before .before .before .before .before .before .before .before .before .before .before .before .before .before .read-run in
+    let read-run2 = c .before .before .before .before .before .before .before .before .before .before .before .before .before .read-run2 in
+    then
+    (go-on (done (cell .given .1) (read-run .ensures .0 names.cell (λ v. u "last_occurrence" 1 (middle v))))
+    (done (flag .given .1) (read-run2 .ensures .0 names.last (λ _. middle (cell .given .0 .1 .1 .0)))))
+    (stops (c .enum-told3 .given .1)
+    ((starts (when-yes _ _ _ _ _ (eq-eqb _ _ (if1 .taken))))
+    (starts (need-any _ _ 5 76 _) (c .before .before .before .before .read-run3 .ensures .0 names.centre lists))))
 
 read-lists-requires : tie.Need-read-lists-requires
 unfolding run signOf widthOf
-read-lists-requires c κs = placed-on (c .before .before .before .before .before .before .before .before .before .before .before .before .before .before .before .before .before .before .before .before .before .before .before .before .before .before .before .before .pre) (go-on (go-on (done (c .before .before .before .before .before .before .before .before .before .before .before .before .before .before .before .before .before .before .before .cell .given .1) (c .before .before .before .before .before .before .before .before .before .before .before .before .before .before .before .before .before .before .before .before .before .before .before .read-run .ensures .0 names.cell (λ v. u "last_occurrence" 1 (middle v)))) (done (c .before .before .before .before .before .before .before .before .before .before .before .flag .given .1) (c .before .before .before .before .before .before .before .before .before .before .before .before .before .before .before .read-run2 .ensures .0 names.last (λ _. middle (c .before .before .before .before .before .before .before .before .before .before .before .before .before .before .before .before .before .before .before .cell .given .0 .1 .1 .0))))) (done (c .before .before .centre .given .1) ((starts (when-yes _ _ _ _ _ (eq-eqb _ _ (c .before .before .before .before .before .before .before .before .before .if1 .taken)))) (starts (need-any _ _ 5 76 _) (c .before .before .before .before .before .before .read-run3 .ensures .0 names.centre lists)))))
+read-lists-requires c κs =
+    let cell = c .before .before .before .before .before .before .before .before .before .before .before .before .before .before .before .before .before .before .before .cell in
+    let flag = c .before .before .before .before .before .before .before .before .before .before .before .flag in
+    let if1 = c .before .before .before .before .before .before .before .before .before .if1 in
+    let pre = c .before .before .before .before .before .before .before .before .before .before .before .before .before .before .before .before .before .before .before .before .before .before .before .before .before .before .before .before .pre in
+    let read-run = c .before .before .before .before .before .before .before .before .before .before .before .before .before .before .before .before .before .before .before .before .before .before .before .read-run in
+    let read-run2 = c .before .before .before .before .before .before .before .before .before .before .before .before .before .before .before .read-run2 in
+    let read-run3 = c .before .before .before .before .before .before .read-run3 in
+    placed-on pre
+    (go-on
+    (go-on (done (cell .given .1) (read-run .ensures .0 names.cell (λ v. u "last_occurrence" 1 (middle v))))
+    (done (flag .given .1) (read-run2 .ensures .0 names.last (λ _. middle (cell .given .0 .1 .1 .0)))))
+    (done (c .before .before .centre .given .1)
+    ((starts (when-yes _ _ _ _ _ (eq-eqb _ _ (if1 .taken))))
+    (starts (need-any _ _ 5 76 _) (read-run3 .ensures .0 names.centre lists)))))
 
 same-length-4 : tie.Need-same-length-4
 unfolding run signOf widthOf
-same-length-4 c = omega (arith, (go-on (go-on (done (c .before .before .before .before .before .before .before .before .before .before .before .before .before .before .before .before .before .before .before .before .before .before .cell .given .1) (c .before .before .before .before .before .before .before .before .before .before .before .before .before .before .before .before .before .before .before .before .before .before .before .before .before .before .read-run .ensures .0 names.cell (λ v. u "last_occurrence" 1 (middle v)))) (done (c .before .before .before .before .before .before .before .before .before .before .before .before .before .before .flag .given .1) (c .before .before .before .before .before .before .before .before .before .before .before .before .before .before .before .before .before .before .read-run2 .ensures .0 names.last (λ _. middle (c .before .before .before .before .before .before .before .before .before .before .before .before .before .before .before .before .before .before .before .before .before .before .cell .given .0 .1 .1 .0))))) (done (c .before .before .before .before .before .centre .given .1) ((starts (when-yes _ _ _ _ _ (eq-eqb _ _ (c .before .before .before .before .before .before .before .before .before .before .before .before .if1 .taken)))) (starts (need-any _ _ 5 76 _) (c .before .before .before .before .before .before .before .before .before .read-run3 .ensures .0 names.centre lists))))) .long)
+same-length-4 c =
+    let cell = c .before .before .before .before .before .before .before .before .before .before .before .before .before .before .before .before .before .before .before .before .before .before .cell in
+    let flag = c .before .before .before .before .before .before .before .before .before .before .before .before .before .before .flag in
+    let if1 = c .before .before .before .before .before .before .before .before .before .before .before .before .if1 in
+    let read-run = c .before .before .before .before .before .before .before .before .before .before .before .before .before .before .before .before .before .before .before .before .before .before .before .before .before .before .read-run in
+    let read-run2 = c .before .before .before .before .before .before .before .before .before .before .before .before .before .before .before .before .before .before .read-run2 in
+    let read-run3 = c .before .before .before .before .before .before .before .before .before .read-run3 in
+    omega (
+      arith,
+      (go-on
+          (go-on (done (cell .given .1) (read-run .ensures .0 names.cell (λ v. u "last_occurrence" 1 (middle v))))
+          (done (flag .given .1) (read-run2 .ensures .0 names.last (λ _. middle (cell .given .0 .1 .1 .0)))))
+          (done (c .before .before .before .before .before .centre .given .1)
+          ((starts (when-yes _ _ _ _ _ (eq-eqb _ _ (if1 .taken))))
+          (starts (need-any _ _ 5 76 _) (read-run3 .ensures .0 names.centre lists))))) .long,
+    )
 
 returns-4 : tie.Need-returns-4
 unfolding fragment run signOf widthOf
-returns-4 c = then (go-on (go-on (done (c .before .before .before .before .before .before .before .before .before .before .before .before .before .before .before .before .before .before .before .before .before .before .cell .given .1) (c .before .before .before .before .before .before .before .before .before .before .before .before .before .before .before .before .before .before .before .before .before .before .before .before .before .before .read-run .ensures .0 names.cell (λ v. u "last_occurrence" 1 (middle v)))) (done (c .before .before .before .before .before .before .before .before .before .before .before .before .before .before .flag .given .1) (c .before .before .before .before .before .before .before .before .before .before .before .before .before .before .before .before .before .before .read-run2 .ensures .0 names.last (λ _. middle (c .before .before .before .before .before .before .before .before .before .before .before .before .before .before .before .before .before .before .before .before .before .before .cell .given .0 .1 .1 .0))))) (done (c .before .before .before .before .before .centre .given .1) ((starts (when-yes _ _ _ _ _ (eq-eqb _ _ (c .before .before .before .before .before .before .before .before .before .before .before .before .if1 .taken)))) (starts (need-any _ _ 5 76 _) (c .before .before .before .before .before .before .before .before .before .read-run3 .ensures .0 names.centre lists))))) (c .before .before .read-lists .ensures)
+returns-4 c =
+    let cell = c .before .before .before .before .before .before .before .before .before .before .before .before .before .before .before .before .before .before .before .before .before .before .cell in
+    let flag = c .before .before .before .before .before .before .before .before .before .before .before .before .before .before .flag in
+    let if1 = c .before .before .before .before .before .before .before .before .before .before .before .before .if1 in
+    let read-run = c .before .before .before .before .before .before .before .before .before .before .before .before .before .before .before .before .before .before .before .before .before .before .before .before .before .before .read-run in
+    let read-run2 = c .before .before .before .before .before .before .before .before .before .before .before .before .before .before .before .before .before .before .read-run2 in
+    let read-run3 = c .before .before .before .before .before .before .before .before .before .read-run3 in
+    then
+    (go-on
+    (go-on (done (cell .given .1) (read-run .ensures .0 names.cell (λ v. u "last_occurrence" 1 (middle v))))
+    (done (flag .given .1) (read-run2 .ensures .0 names.last (λ _. middle (cell .given .0 .1 .1 .0)))))
+    (done (c .before .before .before .before .before .centre .given .1)
+    ((starts (when-yes _ _ _ _ _ (eq-eqb _ _ (if1 .taken))))
+    (starts (need-any _ _ 5 76 _) (read-run3 .ensures .0 names.centre lists)))))
+    (c .before .before .read-lists .ensures)
 
 slice-aggregate-read-run-4 : tie.Need-slice-aggregate-read-run-4
 slice-aggregate-read-run-4 c = search needs
 
 read-run-requires-4 : tie.Need-read-run-requires-4
 unfolding run signOf widthOf
-read-run-requires-4 c κs = (placed-on (c .before .before .before .before .before .before .before .before .before .before .before .before .before .before .before .before .before .before .before .before .before .pre) (go-on (done (c .before .before .before .before .before .before .before .before .before .before .before .before .cell .given .1) (c .before .before .before .before .before .before .before .before .before .before .before .before .before .before .before .before .read-run .ensures .0 names.cell (λ v. u "last_occurrence" 1 (middle v)))) (done (c .before .before .before .before .flag .given .1) (c .before .before .before .before .before .before .before .before .read-run2 .ensures .0 names.last (λ _. middle (c .before .before .before .before .before .before .before .before .before .before .before .before .cell .given .0 .1 .1 .0))))), tt)
+read-run-requires-4 c κs =
+    let cell = c .before .before .before .before .before .before .before .before .before .before .before .before .cell in
+    let pre = c .before .before .before .before .before .before .before .before .before .before .before .before .before .before .before .before .before .before .before .before .before .pre in
+    let read-run = c .before .before .before .before .before .before .before .before .before .before .before .before .before .before .before .before .read-run in
+    let read-run2 = c .before .before .before .before .before .before .before .before .read-run2 in (
+      placed-on pre
+          (go-on (done (cell .given .1) (read-run .ensures .0 names.cell (λ v. u "last_occurrence" 1 (middle v))))
+          (done (c .before .before .before .before .flag .given .1)
+          (read-run2 .ensures .0 names.last (λ _. middle (cell .given .0 .1 .1 .0))))),
+      tt,
+    )
 
 enum-known-none : tie.Need-enum-known-none
 enum-known-none c = search needs
@@ -107,19 +190,70 @@ same-length-5 c = search needs
 
 returns-5 : tie.Need-returns-5
 unfolding fragment run signOf widthOf
-returns-5 c = then (go-on (done (c .before .before .before .before .before .before .before .before .before .before .before .before .before .before .before .before .before .cell .given .1) (c .before .before .before .before .before .before .before .before .before .before .before .before .before .before .before .before .before .before .before .before .before .read-run .ensures .0 names.cell (λ v. u "last_occurrence" 1 (middle v)))) (done (c .before .before .before .before .before .before .before .before .before .flag .given .1) (c .before .before .before .before .before .before .before .before .before .before .before .before .before .read-run2 .ensures .0 names.last (λ _. middle (c .before .before .before .before .before .before .before .before .before .before .before .before .before .before .before .before .before .cell .given .0 .1 .1 .0))))) (stops (c .enum-told4 .given .1) ((starts (when-no _ _ _ _ _ (ne-eqb _ _ (c .before .before .before .before .before .before .before .if1 .left)))) (c .before .before .before .before .read-run4 .ensures .0 names.no-centre lists)))
+returns-5 c =
+    let cell = c .before .before .before .before .before .before .before .before .before .before .before .before .before .before .before .before .before .cell in
+    let flag = c .before .before .before .before .before .before .before .before .before .flag in
+    let if1 = c .before .before .before .before .before .before .before .if1 in
+    let read-run = c .before .before .before .before .before .before .before .before .before .before .before .before .before .before .before .before .before .before .before .before .before .read-run in
+    let read-run2 = c .before .before .before .before .before .before .before .before .before .before .before .before .before .read-run2 in
+    then
+    (go-on (done (cell .given .1) (read-run .ensures .0 names.cell (λ v. u "last_occurrence" 1 (middle v))))
+    (done (flag .given .1) (read-run2 .ensures .0 names.last (λ _. middle (cell .given .0 .1 .1 .0)))))
+    (stops (c .enum-told4 .given .1)
+    ((starts (when-no _ _ _ _ _ (ne-eqb _ _ (if1 .left))))
+    (c .before .before .before .before .read-run4 .ensures .0 names.no-centre lists)))
 
 read-lists-requires-2 : tie.Need-read-lists-requires-2
 unfolding run signOf widthOf
-read-lists-requires-2 c κs = placed-on (c .before .before .before .before .before .before .before .before .before .before .before .before .before .before .before .before .before .before .before .before .before .before .before .before .before .before .before .before .pre) (go-on (go-on (done (c .before .before .before .before .before .before .before .before .before .before .before .before .before .before .before .before .before .before .before .cell .given .1) (c .before .before .before .before .before .before .before .before .before .before .before .before .before .before .before .before .before .before .before .before .before .before .before .read-run .ensures .0 names.cell (λ v. u "last_occurrence" 1 (middle v)))) (done (c .before .before .before .before .before .before .before .before .before .before .before .flag .given .1) (c .before .before .before .before .before .before .before .before .before .before .before .before .before .before .before .read-run2 .ensures .0 names.last (λ _. middle (c .before .before .before .before .before .before .before .before .before .before .before .before .before .before .before .before .before .before .before .cell .given .0 .1 .1 .0))))) (done (c .before .before .none .given .1) ((starts (when-no _ _ _ _ _ (ne-eqb _ _ (c .before .before .before .before .before .before .before .before .before .if1 .left)))) (c .before .before .before .before .before .before .read-run4 .ensures .0 names.no-centre lists))))
+read-lists-requires-2 c κs =
+    let cell = c .before .before .before .before .before .before .before .before .before .before .before .before .before .before .before .before .before .before .before .cell in
+    let flag = c .before .before .before .before .before .before .before .before .before .before .before .flag in
+    let if1 = c .before .before .before .before .before .before .before .before .before .if1 in
+    let pre = c .before .before .before .before .before .before .before .before .before .before .before .before .before .before .before .before .before .before .before .before .before .before .before .before .before .before .before .before .pre in
+    let read-run = c .before .before .before .before .before .before .before .before .before .before .before .before .before .before .before .before .before .before .before .before .before .before .before .read-run in
+    let read-run2 = c .before .before .before .before .before .before .before .before .before .before .before .before .before .before .before .read-run2 in
+    let read-run4 = c .before .before .before .before .before .before .read-run4 in
+    placed-on pre
+    (go-on
+    (go-on (done (cell .given .1) (read-run .ensures .0 names.cell (λ v. u "last_occurrence" 1 (middle v))))
+    (done (flag .given .1) (read-run2 .ensures .0 names.last (λ _. middle (cell .given .0 .1 .1 .0)))))
+    (done (c .before .before .none .given .1)
+    ((starts (when-no _ _ _ _ _ (ne-eqb _ _ (if1 .left)))) (read-run4 .ensures .0 names.no-centre lists))))
 
 same-length-6 : tie.Need-same-length-6
 unfolding run signOf widthOf
-same-length-6 c = omega (arith, (go-on (go-on (done (c .before .before .before .before .before .before .before .before .before .before .before .before .before .before .before .before .before .before .before .before .before .before .cell .given .1) (c .before .before .before .before .before .before .before .before .before .before .before .before .before .before .before .before .before .before .before .before .before .before .before .before .before .before .read-run .ensures .0 names.cell (λ v. u "last_occurrence" 1 (middle v)))) (done (c .before .before .before .before .before .before .before .before .before .before .before .before .before .before .flag .given .1) (c .before .before .before .before .before .before .before .before .before .before .before .before .before .before .before .before .before .before .read-run2 .ensures .0 names.last (λ _. middle (c .before .before .before .before .before .before .before .before .before .before .before .before .before .before .before .before .before .before .before .before .before .before .cell .given .0 .1 .1 .0))))) (done (c .before .before .before .before .before .none .given .1) ((starts (when-no _ _ _ _ _ (ne-eqb _ _ (c .before .before .before .before .before .before .before .before .before .before .before .before .if1 .left)))) (c .before .before .before .before .before .before .before .before .before .read-run4 .ensures .0 names.no-centre lists)))) .long)
+same-length-6 c =
+    let cell = c .before .before .before .before .before .before .before .before .before .before .before .before .before .before .before .before .before .before .before .before .before .before .cell in
+    let flag = c .before .before .before .before .before .before .before .before .before .before .before .before .before .before .flag in
+    let if1 = c .before .before .before .before .before .before .before .before .before .before .before .before .if1 in
+    let read-run = c .before .before .before .before .before .before .before .before .before .before .before .before .before .before .before .before .before .before .before .before .before .before .before .before .before .before .read-run in
+    let read-run2 = c .before .before .before .before .before .before .before .before .before .before .before .before .before .before .before .before .before .before .read-run2 in
+    let read-run4 = c .before .before .before .before .before .before .before .before .before .read-run4 in
+    omega (
+      arith,
+      (go-on
+          (go-on (done (cell .given .1) (read-run .ensures .0 names.cell (λ v. u "last_occurrence" 1 (middle v))))
+          (done (flag .given .1) (read-run2 .ensures .0 names.last (λ _. middle (cell .given .0 .1 .1 .0)))))
+          (done (c .before .before .before .before .before .none .given .1)
+          ((starts (when-no _ _ _ _ _ (ne-eqb _ _ (if1 .left)))) (read-run4 .ensures .0 names.no-centre lists)))) .long,
+    )
 
 returns-6 : tie.Need-returns-6
 unfolding fragment run signOf widthOf
-returns-6 c = then (go-on (go-on (done (c .before .before .before .before .before .before .before .before .before .before .before .before .before .before .before .before .before .before .before .before .before .before .cell .given .1) (c .before .before .before .before .before .before .before .before .before .before .before .before .before .before .before .before .before .before .before .before .before .before .before .before .before .before .read-run .ensures .0 names.cell (λ v. u "last_occurrence" 1 (middle v)))) (done (c .before .before .before .before .before .before .before .before .before .before .before .before .before .before .flag .given .1) (c .before .before .before .before .before .before .before .before .before .before .before .before .before .before .before .before .before .before .read-run2 .ensures .0 names.last (λ _. middle (c .before .before .before .before .before .before .before .before .before .before .before .before .before .before .before .before .before .before .before .before .before .before .cell .given .0 .1 .1 .0))))) (done (c .before .before .before .before .before .none .given .1) ((starts (when-no _ _ _ _ _ (ne-eqb _ _ (c .before .before .before .before .before .before .before .before .before .before .before .before .if1 .left)))) (c .before .before .before .before .before .before .before .before .before .read-run4 .ensures .0 names.no-centre lists)))) (c .before .before .read-lists2 .ensures)
+returns-6 c =
+    let cell = c .before .before .before .before .before .before .before .before .before .before .before .before .before .before .before .before .before .before .before .before .before .before .cell in
+    let flag = c .before .before .before .before .before .before .before .before .before .before .before .before .before .before .flag in
+    let if1 = c .before .before .before .before .before .before .before .before .before .before .before .before .if1 in
+    let read-run = c .before .before .before .before .before .before .before .before .before .before .before .before .before .before .before .before .before .before .before .before .before .before .before .before .before .before .read-run in
+    let read-run2 = c .before .before .before .before .before .before .before .before .before .before .before .before .before .before .before .before .before .before .read-run2 in
+    let read-run4 = c .before .before .before .before .before .before .before .before .before .read-run4 in
+    then
+    (go-on
+    (go-on (done (cell .given .1) (read-run .ensures .0 names.cell (λ v. u "last_occurrence" 1 (middle v))))
+    (done (flag .given .1) (read-run2 .ensures .0 names.last (λ _. middle (cell .given .0 .1 .1 .0)))))
+    (done (c .before .before .before .before .before .none .given .1)
+    ((starts (when-no _ _ _ _ _ (ne-eqb _ _ (if1 .left)))) (read-run4 .ensures .0 names.no-centre lists))))
+    (c .before .before .read-lists2 .ensures)
 
 pub read-fragment-spec : {M : Type 1} → statement M
 read-fragment-spec =

@@ -23,10 +23,19 @@ shl-result : tie.Need-shl-result
 shl-result c = ((omega (arith, mark-facts (c .before .before .args .mark) (c .before .before .pre) .most, c .before .width-of .ensures)))
 
 rem-result : tie.Need-rem-result
-rem-result c = rw (one-shl (c .before .width-of .result) ((omega (arith, mark-facts (c .before .before .args .mark) (c .before .before .pre) .most, c .before .width-of .ensures)))) (pow-pos (c .before .width-of .result))
+rem-result c =
+    rw
+    (one-shl (c .before .width-of .result)
+    ((omega (arith, mark-facts (c .before .before .args .mark) (c .before .before .pre) .most, c .before .width-of .ensures))))
+    (pow-pos (c .before .width-of .result))
 
 returns-2 : tie.Need-returns-2
-returns-2 c = rw (one-shl (c .before .width-of .result) ((omega (arith, mark-facts (c .before .before .args .mark) (c .before .before .pre) .most, c .before .width-of .ensures))), c .before .width-of .ensures)
+returns-2 c =
+    rw (
+      one-shl (c .before .width-of .result)
+          ((omega (arith, mark-facts (c .before .before .args .mark) (c .before .before .pre) .most, c .before .width-of .ensures))),
+      c .before .width-of .ensures,
+    )
 
 pub low-of-spec : {M : Type 1} → statement M
 low-of-spec = tie.close (tie.spec width-of-requires returns shl-result rem-result returns-2)

@@ -51,7 +51,8 @@ add-result c =
 returns-3 : tie.Need-returns-3
 returns-3 c =
     let p = powers (c .before .before .args .mark) (c .before .before .pre .0) (omega arith) in
-    rw (p .whole, shown-signed (c .before .before .args .mark) (c .before .before .args .v) (omega arith)) (not-below _ _ (rw (p .half) at (c .if2 .left)) refl)
+    rw (p .whole, shown-signed (c .before .before .args .mark) (c .before .before .args .v) (omega arith))
+    (not-below _ _ (rw (p .half) at (c .if2 .left)) refl)
 
 pub shown-of-spec : {M : Type 1} → statement M
 shown-of-spec =

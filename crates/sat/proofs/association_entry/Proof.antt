@@ -29,11 +29,15 @@ enum-known-r-2 c = search needs
 
 returns : tie.Need-returns
 unfolding after typedAt associationAt
-returns c = given _ tables.association _ _ Refused (λ ts q. r.Entry (associationOf ts) q) r.Refused after (λ ts q. refl) (λ f. refl) (c .before .before .before .read-association .ensures) (c .before .r .given .1) refl
+returns c =
+    given _ tables.association _ _ Refused (λ ts q. r.Entry (associationOf ts) q) r.Refused after (λ ts q. refl) (λ f. refl)
+    (c .before .before .before .read-association .ensures) (c .before .r .given .1) refl
 
 returns-2 : tie.Need-returns-2
 unfolding after typedAt associationAt
-returns-2 c = given _ tables.association _ _ Refused (λ ts q. r.Entry (associationOf ts) q) r.Refused after (λ ts q. refl) (λ f. refl) (c .before .before .before .read-association .ensures) (c .before .r2 .given .1) refl
+returns-2 c =
+    given _ tables.association _ _ Refused (λ ts q. r.Entry (associationOf ts) q) r.Refused after (λ ts q. refl) (λ f. refl)
+    (c .before .before .before .read-association .ensures) (c .before .r2 .given .1) refl
 
 pub association-entry-spec : {M : Type 1} → statement M
 association-entry-spec =

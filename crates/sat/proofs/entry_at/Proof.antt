@@ -27,23 +27,61 @@ walk-refusal-requires : tie.Need-walk-refusal-requires
 walk-refusal-requires c κs = search needs
 
 returns : tie.Need-returns
-returns c = entry-refused (c .before .before .before .before .before .args .table-id) ((c .before .before .before .before .before .args .body .now)) (c .before .before .before .before .before .args .index) ((c .before .before .before .walk-body .ensures .0)) (c .before .enum-told .given .1) (c .walk-refusal .ensures)
+returns c =
+    let a = c .before .before .before .before .before .args in
+    entry-refused (a .table-id) ((a .body .now)) (a .index) ((c .before .before .before .walk-body .ensures .0)) (c .before .enum-told .given .1)
+    (c .walk-refusal .ensures)
 
 returns-2 : tie.Need-returns-2
-returns-2 c = entry-none (c .before .before .before .before .before .before .args .table-id) ((c .before .before .before .before .before .before .args .body .now)) (c .before .before .before .before .before .before .args .index) ((c .before .before .before .before .walk-body .ensures .0)) (c .before .before .w .given .1) (c .if1 .taken)
+returns-2 c =
+    let a = c .before .before .before .before .before .before .args in
+    entry-none (a .table-id) ((a .body .now)) (a .index) ((c .before .before .before .before .walk-body .ensures .0)) (c .before .before .w .given .1)
+    (c .if1 .taken)
 
 satellite-v3-entry-requires : tie.Need-satellite-v3-entry-requires
-satellite-v3-entry-requires c κs = (record { short = omega (arith, (sure-of (c .before .before .before .w .given .1) (c .before .before .before .before .before .walk-body .ensures .1))); within = ((sure-of (c .before .before .before .w .given .1) (c .before .before .before .before .before .walk-body .ensures .1))) .1 }, ((sure-of (c .before .before .before .w .given .1) (c .before .before .before .before .before .walk-body .ensures .1))) .2)
+satellite-v3-entry-requires c κs =
+    let w = c .before .before .before .w in
+    let walk-body = c .before .before .before .before .before .walk-body in (
+      record
+          { short = omega (arith, (sure-of (w .given .1) (walk-body .ensures .1))); within = ((sure-of (w .given .1) (walk-body .ensures .1))) .1 },
+      ((sure-of (w .given .1) (walk-body .ensures .1))) .2,
+    )
 
 returns-3 : tie.Need-returns-3
-returns-3 c = let z : c .before .before .before .before .before .before .before .before .args .table-id ≡ 4 = c .before .if2 .taken in let e0 : c .satellite-v3-entry .result .answer ≡ typedAt (c .before .before .before .before .before .before .before .before .args .table-id) ((c .before .before .before .before .before .before .before .before .args .body .now)) (c .before .before .before .before .w .given .0 .1 .0) = rw z (c .satellite-v3-entry .ensures .0) in let e1 : c .satellite-v3-entry .result .«covariance_elements» ≡ elementsFor (c .before .before .before .before .before .before .before .before .args .table-id) ((c .before .before .before .before .before .before .before .before .args .body .now)) (c .before .before .before .before .w .given .0 .1 .0) = rw z (c .satellite-v3-entry .ensures .1) in entry-found (c .before .before .before .before .before .before .before .before .args .table-id) ((c .before .before .before .before .before .before .before .before .args .body .now)) (c .before .before .before .before .before .before .before .before .args .index) ((c .before .before .before .before .before .before .walk-body .ensures .0)) (c .satellite-v3-entry .result .answer) (c .satellite-v3-entry .result .«covariance_elements») (c .before .before .before .before .w .given .1) (c .before .before .if1 .left) e0 e1
+returns-3 c =
+    let a = c .before .before .before .before .before .before .before .before .args in
+    let w = c .before .before .before .before .w in
+    let walk-body = c .before .before .before .before .before .before .walk-body in
+    let z : a .table-id ≡ 4 = c .before .if2 .taken in let e0 : c .satellite-v3-entry .result .answer ≡ typedAt (a .table-id) ((a .body .now))
+    (w .given .0 .1 .0) = rw z (c .satellite-v3-entry .ensures .0) in let e1 : c .satellite-v3-entry .result .«covariance_elements» ≡ elementsFor
+    (a .table-id) ((a .body .now)) (w .given .0 .1 .0) = rw z (c .satellite-v3-entry .ensures .1) in entry-found (a .table-id) ((a .body .now))
+    (a .index) ((walk-body .ensures .0)) (c .satellite-v3-entry .result .answer) (c .satellite-v3-entry .result .«covariance_elements») (w .given .1)
+    (c .before .before .if1 .left) e0 e1
 
 other-entry-requires : tie.Need-other-entry-requires
-other-entry-requires c κs = ((record { short = omega (arith, (sure-of (c .before .before .before .w .given .1) (c .before .before .before .before .before .walk-body .ensures .1))); within = ((sure-of (c .before .before .before .w .given .1) (c .before .before .before .before .before .walk-body .ensures .1))) .1 }, ((sure-of (c .before .before .before .w .given .1) (c .before .before .before .before .before .walk-body .ensures .1))) .2), (λ z. first-place ((c .before .before .before .before .before .before .before .args .body .now)) (c .before .before .before .before .before .before .before .args .index) (subst (λ (k : ℕ). c .before .before .before .before .before .walk-body .result ≡ seek (c .before .before .before .before .before .before .before .args .index) walked.Entries walked.Refused (bodyStarts k ((c .before .before .before .before .before .before .before .args .body .now)))) z ((c .before .before .before .before .before .walk-body .ensures .0))) (c .before .before .before .w .given .1)), c .if2 .left)
+other-entry-requires c κs =
+    let a = c .before .before .before .before .before .before .before .args in
+    let w = c .before .before .before .w in
+    let walk-body = c .before .before .before .before .before .walk-body in (
+      (
+        record
+            { short = omega (arith, (sure-of (w .given .1) (walk-body .ensures .1))); within = ((sure-of (w .given .1) (walk-body .ensures .1))) .1 },
+        ((sure-of (w .given .1) (walk-body .ensures .1))) .2,
+      ),
+      (λ z. first-place ((a .body .now)) (a .index)
+          (subst (λ (k : ℕ). walk-body .result ≡ seek (a .index) walked.Entries walked.Refused (bodyStarts k ((a .body .now)))) z
+          ((walk-body .ensures .0)))
+          (w .given .1)),
+      c .if2 .left,
+    )
 
 returns-4 : tie.Need-returns-4
 unfolding elementsFor
-returns-4 c = entry-found (c .before .before .before .before .before .before .before .before .args .table-id) ((c .before .before .before .before .before .before .before .before .args .body .now)) (c .before .before .before .before .before .before .before .before .args .index) ((c .before .before .before .before .before .before .walk-body .ensures .0)) _ _ (c .before .before .before .before .w .given .1) (c .before .before .if1 .left) (c .other-entry .ensures) (not-equal _ _ (c .before .if2 .left) refl)
+returns-4 c =
+    let a = c .before .before .before .before .before .before .before .before .args in
+    let walk-body = c .before .before .before .before .before .before .walk-body in
+    entry-found (a .table-id) ((a .body .now)) (a .index) ((walk-body .ensures .0)) _ _ (c .before .before .before .before .w .given .1)
+    (c .before .before .if1 .left) (c .other-entry .ensures) (not-equal _ _ (c .before .if2 .left) refl)
 
 pub entry-at-spec : {M : Type 1} → statement M
 entry-at-spec =

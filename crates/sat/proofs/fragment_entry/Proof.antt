@@ -29,11 +29,15 @@ enum-known-r-2 c = search needs
 
 returns : tie.Need-returns
 unfolding after typedAt fragmentAt
-returns c = given _ tables.fragment _ _ Refused (λ ts q. r.Entry (fragmentOf (c .before .before .before .before .before .args .at) ts) q) r.Refused after (λ ts q. refl) (λ f. refl) (c .before .before .before .read-fragment .ensures) (c .before .r .given .1) refl
+returns c =
+    given _ tables.fragment _ _ Refused (λ ts q. r.Entry (fragmentOf (c .before .before .before .before .before .args .at) ts) q) r.Refused after
+    (λ ts q. refl) (λ f. refl) (c .before .before .before .read-fragment .ensures) (c .before .r .given .1) refl
 
 returns-2 : tie.Need-returns-2
 unfolding after typedAt fragmentAt
-returns-2 c = given _ tables.fragment _ _ Refused (λ ts q. r.Entry (fragmentOf (c .before .before .before .before .before .args .at) ts) q) r.Refused after (λ ts q. refl) (λ f. refl) (c .before .before .before .read-fragment .ensures) (c .before .r2 .given .1) refl
+returns-2 c =
+    given _ tables.fragment _ _ Refused (λ ts q. r.Entry (fragmentOf (c .before .before .before .before .before .args .at) ts) q) r.Refused after
+    (λ ts q. refl) (λ f. refl) (c .before .before .before .read-fragment .ensures) (c .before .r2 .given .1) refl
 
 pub fragment-entry-spec : {M : Type 1} → statement M
 fragment-entry-spec =

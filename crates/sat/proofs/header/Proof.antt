@@ -37,7 +37,8 @@ returns c = walked-off 0 _ _ _ (c .before .before .before .walk-body .ensures .0
 
 returns-2 : tie.Need-returns-2
 unfolding headerOfBody
-returns-2 c = walked-on 0 _ _ _ (c .before .before .before .walk-body .ensures .0) (c .before .enum-told .given .1) (not-equal _ _ (c .if1 .taken) refl)
+returns-2 c =
+    walked-on 0 _ _ _ (c .before .before .before .walk-body .ensures .0) (c .before .enum-told .given .1) (not-equal _ _ (c .if1 .taken) refl)
 
 read-header-requires : tie.Need-read-header-requires
 read-header-requires c κs = omega (arith, sure-of (c .before .enum-told .given .1) (c .before .before .before .walk-body .ensures .1))
@@ -50,11 +51,23 @@ enum-known-r-2 c = search needs
 
 returns-3 : tie.Need-returns-3
 unfolding headerOfBody after headerAt
-returns-3 c = walked-on 0 _ _ _ (c .before .before .before .before .before .before .before .walk-body .ensures .0) (c .before .before .before .before .before .enum-told .given .1) (equal {m = c .before .before .before .before .before .before .before .before .before .args .table-id} {n = 4} _ _ (omega (arith, c .before .before .before .before .if1 .left)) (given _ tables.header _ _ Refused (λ ts q. r.Header (headerOf ts) q) r.Refused after (λ ts q. refl) (λ f. refl) (c .before .before .before .read-header .ensures) (c .before .r .given .1) refl))
+returns-3 c =
+    let a = c .before .before .before .before .before .before .before .before .before .args in
+    let walk-body = c .before .before .before .before .before .before .before .walk-body in
+    walked-on 0 _ _ _ (walk-body .ensures .0) (c .before .before .before .before .before .enum-told .given .1)
+    (equal {m = a .table-id} {n = 4} _ _ (omega (arith, c .before .before .before .before .if1 .left))
+    (given _ tables.header _ _ Refused (λ ts q. r.Header (headerOf ts) q) r.Refused after (λ ts q. refl) (λ f. refl)
+    (c .before .before .before .read-header .ensures) (c .before .r .given .1) refl))
 
 returns-4 : tie.Need-returns-4
 unfolding headerOfBody after headerAt
-returns-4 c = walked-on 0 _ _ _ (c .before .before .before .before .before .before .before .walk-body .ensures .0) (c .before .before .before .before .before .enum-told .given .1) (equal {m = c .before .before .before .before .before .before .before .before .before .args .table-id} {n = 4} _ _ (omega (arith, c .before .before .before .before .if1 .left)) (given _ tables.header _ _ Refused (λ ts q. r.Header (headerOf ts) q) r.Refused after (λ ts q. refl) (λ f. refl) (c .before .before .before .read-header .ensures) (c .before .r2 .given .1) refl))
+returns-4 c =
+    let a = c .before .before .before .before .before .before .before .before .before .args in
+    let walk-body = c .before .before .before .before .before .before .before .walk-body in
+    walked-on 0 _ _ _ (walk-body .ensures .0) (c .before .before .before .before .before .enum-told .given .1)
+    (equal {m = a .table-id} {n = 4} _ _ (omega (arith, c .before .before .before .before .if1 .left))
+    (given _ tables.header _ _ Refused (λ ts q. r.Header (headerOf ts) q) r.Refused after (λ ts q. refl) (λ f. refl)
+    (c .before .before .before .read-header .ensures) (c .before .r2 .given .1) refl))
 
 pub header-spec : {M : Type 1} → statement M
 header-spec =

@@ -21,7 +21,10 @@ association-entry-requires : tie.Need-association-entry-requires
 association-entry-requires c κs = c .before .before .before .before .pre .0 .0 .short
 
 returns-3 : tie.Need-returns-3
-returns-3 c = let z : c .before .before .before .before .before .args .table-id ≡ 2 = c .before .if3 .taken in let y : c .before .before .before .before .before .args .at ≡ 0 = c .before .before .before .before .before .pre .1 z in rw (z, y) (c .association-entry .ensures)
+returns-3 c =
+    let a = c .before .before .before .before .before .args in
+    let z : a .table-id ≡ 2 = c .before .if3 .taken in let y : a .at ≡ 0 = c .before .before .before .before .before .pre .1 z in rw (z, y)
+    (c .association-entry .ensures)
 
 plan-entry-requires : tie.Need-plan-entry-requires
 plan-entry-requires c κs = c .before .before .before .before .before .pre .0
@@ -30,7 +33,10 @@ returns-4 : tie.Need-returns-4
 returns-4 c = let z : c .before .before .before .before .before .before .args .table-id ≡ 3 = c .before .if4 .taken in rw z (c .plan-entry .ensures)
 
 returns-5 : tie.Need-returns-5
-returns-5 c = raw-entry (c .before .before .before .before .before .args .table-id) _ (c .before .before .before .before .before .args .at) (c .before .before .before .if1 .left) (c .before .before .if2 .left) (c .before .if3 .left) (c .if4 .left) (c .before .before .before .before .before .pre .2)
+returns-5 c =
+    let a = c .before .before .before .before .before .args in
+    raw-entry (a .table-id) _ (a .at) (c .before .before .before .if1 .left) (c .before .before .if2 .left) (c .before .if3 .left) (c .if4 .left)
+    (c .before .before .before .before .before .pre .2)
 
 pub other-entry-spec : {M : Type 1} → statement M
 other-entry-spec =

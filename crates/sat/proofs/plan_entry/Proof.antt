@@ -29,11 +29,17 @@ enum-known-r-2 c = search needs
 
 returns : tie.Need-returns
 unfolding after typedAt planAt
-returns c = given _ tables.beamhopping _ _ Refused (λ ts q. r.Entry (planOf (c .before .before .before .before .before .args .s .now) (c .before .before .before .before .before .args .at) ts) q) r.Refused after (λ ts q. refl) (λ f. refl) (c .before .before .before .read-plan .ensures) (c .before .r .given .1) refl
+returns c =
+    let a = c .before .before .before .before .before .args in
+    given _ tables.beamhopping _ _ Refused (λ ts q. r.Entry (planOf (a .s .now) (a .at) ts) q) r.Refused after (λ ts q. refl) (λ f. refl)
+    (c .before .before .before .read-plan .ensures) (c .before .r .given .1) refl
 
 returns-2 : tie.Need-returns-2
 unfolding after typedAt planAt
-returns-2 c = given _ tables.beamhopping _ _ Refused (λ ts q. r.Entry (planOf (c .before .before .before .before .before .args .s .now) (c .before .before .before .before .before .args .at) ts) q) r.Refused after (λ ts q. refl) (λ f. refl) (c .before .before .before .read-plan .ensures) (c .before .r2 .given .1) refl
+returns-2 c =
+    let a = c .before .before .before .before .before .args in
+    given _ tables.beamhopping _ _ Refused (λ ts q. r.Entry (planOf (a .s .now) (a .at) ts) q) r.Refused after (λ ts q. refl) (λ f. refl)
+    (c .before .before .before .read-plan .ensures) (c .before .r2 .given .1) refl
 
 pub plan-entry-spec : {M : Type 1} → statement M
 plan-entry-spec =

@@ -29,11 +29,15 @@ enum-known-r-2 c = search needs
 
 returns : tie.Need-returns
 unfolding after typedAt satelliteAt
-returns c = given _ tables.position _ _ Refused (λ ts q. r.Entry (satelliteOf ts) q) r.Refused after (λ ts q. refl) (λ f. refl) (c .before .before .before .read-satellite .ensures) (c .before .r .given .1) refl
+returns c =
+    given _ tables.position _ _ Refused (λ ts q. r.Entry (satelliteOf ts) q) r.Refused after (λ ts q. refl) (λ f. refl)
+    (c .before .before .before .read-satellite .ensures) (c .before .r .given .1) refl
 
 returns-2 : tie.Need-returns-2
 unfolding after typedAt satelliteAt
-returns-2 c = given _ tables.position _ _ Refused (λ ts q. r.Entry (satelliteOf ts) q) r.Refused after (λ ts q. refl) (λ f. refl) (c .before .before .before .read-satellite .ensures) (c .before .r2 .given .1) refl
+returns-2 c =
+    given _ tables.position _ _ Refused (λ ts q. r.Entry (satelliteOf ts) q) r.Refused after (λ ts q. refl) (λ f. refl)
+    (c .before .before .before .read-satellite .ensures) (c .before .r2 .given .1) refl
 
 pub satellite-entry-spec : {M : Type 1} → statement M
 satellite-entry-spec =

@@ -30,11 +30,23 @@ enum-known-r-2 c = search needs
 
 returns : tie.Need-returns
 unfolding after typedAt elementsFor satelliteV3At
-returns c = (given _ tables.position3 _ _ Refused (λ ts q. r.Entry (satelliteV3Of (c .before .before .before .before .before .before .args .at) ts) q) r.Refused after (λ ts q. refl) (λ f. refl) ((ap (λ (v : PositionV3Read). v .answer) (c .before .before .before .before .read-satellite-v3 .ensures))) (c .before .r .given .1) refl, (ap (λ (v : PositionV3Read). v .«covariance_elements») (c .before .before .before .before .read-satellite-v3 .ensures)))
+returns c =
+    let a = c .before .before .before .before .before .before .args in
+    let read-satellite-v3 = c .before .before .before .before .read-satellite-v3 in (
+      given _ tables.position3 _ _ Refused (λ ts q. r.Entry (satelliteV3Of (a .at) ts) q) r.Refused after (λ ts q. refl) (λ f. refl)
+          ((ap (λ (v : PositionV3Read). v .answer) (read-satellite-v3 .ensures))) (c .before .r .given .1) refl,
+      (ap (λ (v : PositionV3Read). v .«covariance_elements») (read-satellite-v3 .ensures)),
+    )
 
 returns-2 : tie.Need-returns-2
 unfolding after typedAt elementsFor satelliteV3At
-returns-2 c = (given _ tables.position3 _ _ Refused (λ ts q. r.Entry (satelliteV3Of (c .before .before .before .before .before .before .args .at) ts) q) r.Refused after (λ ts q. refl) (λ f. refl) ((ap (λ (v : PositionV3Read). v .answer) (c .before .before .before .before .read-satellite-v3 .ensures))) (c .before .r2 .given .1) refl, (ap (λ (v : PositionV3Read). v .«covariance_elements») (c .before .before .before .before .read-satellite-v3 .ensures)))
+returns-2 c =
+    let a = c .before .before .before .before .before .before .args in
+    let read-satellite-v3 = c .before .before .before .before .read-satellite-v3 in (
+      given _ tables.position3 _ _ Refused (λ ts q. r.Entry (satelliteV3Of (a .at) ts) q) r.Refused after (λ ts q. refl) (λ f. refl)
+          ((ap (λ (v : PositionV3Read). v .answer) (read-satellite-v3 .ensures))) (c .before .r2 .given .1) refl,
+      (ap (λ (v : PositionV3Read). v .«covariance_elements») (read-satellite-v3 .ensures)),
+    )
 
 pub satellite-v3-entry-spec : {M : Type 1} → statement M
 satellite-v3-entry-spec =

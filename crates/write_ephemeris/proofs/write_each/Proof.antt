@@ -32,7 +32,12 @@ same-length : tie.Need-same-length Inv-loop μ-loop
 same-length c = omega (arith, c .before .before .before .before .before .before .before .loop .inv .0 .long)
 
 returns : tie.Need-returns Inv-loop μ-loop
-returns c = λ s. stop (ephemerisTo (c .before .before .before .before .before .before .before .before .before .before .args .accel)) (c .before .before .before .before .before .before .before .loop .inv .0) (λ e k. c .before .before .before .before .write-entry .ensures e k) (λ k. left-next (c .before .before .before .before .before .before .before .before .before .before .args .accel) (c .before .before .before .before .before .before .before .before .before .before .args .count) 0 (c .before .before .before .before .before .before .before .loop .i) k (c .before .before .before .before .before .before .loop-test .taken)) (c .enum-told .given .1) 0 (λ _. s) (λ _. s)
+returns c =
+    let a = c .before .before .before .before .before .before .before .before .before .before .args in
+    let l = c .before .before .before .before .before .before .before .loop in
+    let test′ = c .before .before .before .before .before .before .loop-test in
+    λ s. stop (ephemerisTo (a .accel)) (l .inv .0) (λ e k. c .before .before .before .before .write-entry .ensures e k)
+    (λ k. left-next (a .accel) (a .count) 0 (l .i) k (test′ .taken)) (c .enum-told .given .1) 0 (λ _. s) (λ _. s)
 
 add-i : tie.Need-add-i Inv-loop μ-loop
 add-i c = omega arith
@@ -41,13 +46,23 @@ loop-less : tie.Need-loop-less Inv-loop μ-loop
 loop-less c = omega arith
 
 loop-again : tie.Need-loop-again Inv-loop μ-loop
-loop-again c = (as-zero (c .before .before .before .before .before .before .before .before .before .before .before .args .accel) (c .before .before .before .before .before .before .before .before .before .before .before .args .count) (turn (ephemerisTo (c .before .before .before .before .before .before .before .before .before .before .before .args .accel)) (c .before .before .before .before .before .before .before .before .loop .inv .0) (λ e k. c .before .before .before .before .before .write-entry .ensures e k) (λ k. left-next (c .before .before .before .before .before .before .before .before .before .before .before .args .accel) (c .before .before .before .before .before .before .before .before .before .before .before .args .count) 0 (c .before .before .before .before .before .before .before .before .loop .i) k (c .before .before .before .before .before .before .before .loop-test .taken)) (c .before .step .given .1)), omega arith)
+loop-again c =
+    let a = c .before .before .before .before .before .before .before .before .before .before .before .args in
+    let l = c .before .before .before .before .before .before .before .before .loop in
+    let test′ = c .before .before .before .before .before .before .before .loop-test in (
+      as-zero (a .accel) (a .count)
+          (turn (ephemerisTo (a .accel)) (l .inv .0) (λ e k. c .before .before .before .before .before .write-entry .ensures e k)
+          (λ k. left-next (a .accel) (a .count) 0 (l .i) k (test′ .taken)) (c .before .step .given .1)),
+      omega arith,
+    )
 
 same-length-2 : tie.Need-same-length-2 Inv-loop μ-loop
 same-length-2 c = c .before .loop .inv .0 .long
 
 returns-2 : tie.Need-returns-2 Inv-loop μ-loop
-returns-2 c = λ s. record { to = ended (c .before .loop .inv .0) 0 (λ _. s) _ (left-end (c .before .before .before .before .args .accel) (c .before .before .before .before .args .count) 0 (c .before .loop .i) (λ _. s) (omega arith)) }
+returns-2 c =
+    let a = c .before .before .before .before .args in
+    λ s. record { to = ended (c .before .loop .inv .0) 0 (λ _. s) _ (left-end (a .accel) (a .count) 0 (c .before .loop .i) (λ _. s) (omega arith)) }
 
 pub write-each-spec : {M : Type 1} → statement M
 write-each-spec =

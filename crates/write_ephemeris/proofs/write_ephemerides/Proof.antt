@@ -33,11 +33,17 @@ same-length c = search needs
 
 returns : tie.Need-returns
 unfolding run signOf widthOf
-returns c = stops (c .enum-told .given .1) (c .before .before .before .before .write-run .ensures .0 0 names.count (rest (c .before .before .before .before .before .before .before .before .before .args .accel) (c .before .before .before .before .before .before .before .before .before .args .cov)))
+returns c =
+    let a = c .before .before .before .before .before .before .before .before .before .args in
+    stops (c .enum-told .given .1) (c .before .before .before .before .write-run .ensures .0 0 names.count (rest (a .accel) (a .cov)))
 
 write-each-requires : tie.Need-write-each-requires
 unfolding run signOf widthOf
-write-each-requires c κs = placed-on (c .before .before .before .before .before .before .before .before .before .before .before .pre) ((done (c .before .before .number .given .1) (c .before .before .before .before .before .before .write-run .ensures .0 0 names.count (rest (c .before .before .before .before .before .before .before .before .before .before .before .args .accel) (c .before .before .before .before .before .before .before .before .before .before .before .args .cov)))))
+write-each-requires c κs =
+    let a = c .before .before .before .before .before .before .before .before .before .before .before .args in
+    let pre = c .before .before .before .before .before .before .before .before .before .before .before .pre in
+    let write-run = c .before .before .before .before .before .before .write-run in
+    placed-on pre ((done (c .before .before .number .given .1) (write-run .ensures .0 0 names.count (rest (a .accel) (a .cov)))))
 
 enum-known-each : tie.Need-enum-known-each
 enum-known-each c = search needs
@@ -50,30 +56,86 @@ same-length-2 c = search needs
 
 returns-2 : tie.Need-returns-2
 unfolding run signOf widthOf
-returns-2 c = then ((done (c .before .before .before .before .before .before .before .number .given .1) (c .before .before .before .before .before .before .before .before .before .before .before .write-run .ensures .0 0 names.count (rest (c .before .before .before .before .before .before .before .before .before .before .before .before .before .before .before .before .args .accel) (c .before .before .before .before .before .before .before .before .before .before .before .before .before .before .before .before .args .cov))))) (stops (c .enum-told2 .given .1) (c .before .before .before .before .write-each .ensures (covariance (c .before .before .before .before .before .before .before .before .before .before .before .before .before .before .before .before .args .cov))))
+returns-2 c =
+    let a = c .before .before .before .before .before .before .before .before .before .before .before .before .before .before .before .before .args in
+    let number = c .before .before .before .before .before .before .before .number in
+    let write-run = c .before .before .before .before .before .before .before .before .before .before .before .write-run in
+    then ((done (number .given .1) (write-run .ensures .0 0 names.count (rest (a .accel) (a .cov)))))
+    (stops (c .enum-told2 .given .1) (c .before .before .before .before .write-each .ensures (covariance (a .cov))))
 
 slice-aggregate-write-needed : tie.Need-slice-aggregate-write-needed
 slice-aggregate-write-needed c = search needs
 
 write-needed-requires : tie.Need-write-needed-requires
 unfolding run signOf widthOf
-write-needed-requires c κs = (placed-on (c .before .before .before .before .before .before .before .before .before .before .before .before .before .before .before .before .before .before .before .before .pre) ((go-on ((done (c .before .before .before .before .before .before .before .before .before .before .before .number .given .1) (c .before .before .before .before .before .before .before .before .before .before .before .before .before .before .before .write-run .ensures .0 0 names.count (rest (c .before .before .before .before .before .before .before .before .before .before .before .before .before .before .before .before .before .before .before .before .args .accel) (c .before .before .before .before .before .before .before .before .before .before .before .before .before .before .before .before .before .before .before .before .args .cov))))) (done (c .before .before .before .before .each .given .1) (c .before .before .before .before .before .before .before .before .write-each .ensures (covariance (c .before .before .before .before .before .before .before .before .before .before .before .before .before .before .before .before .before .before .before .before .args .cov)))))), tt)
+write-needed-requires c κs =
+    let a = c .before .before .before .before .before .before .before .before .before .before .before .before .before .before .before .before .before .before .before .before .args in
+    let number = c .before .before .before .before .before .before .before .before .before .before .before .number in
+    let pre = c .before .before .before .before .before .before .before .before .before .before .before .before .before .before .before .before .before .before .before .before .pre in
+    let write-each = c .before .before .before .before .before .before .before .before .write-each in
+    let write-run = c .before .before .before .before .before .before .before .before .before .before .before .before .before .before .before .write-run in (
+      placed-on pre
+          ((go-on ((done (number .given .1) (write-run .ensures .0 0 names.count (rest (a .accel) (a .cov)))))
+          (done (c .before .before .before .before .each .given .1) (write-each .ensures (covariance (a .cov)))))),
+      tt,
+    )
 
 same-length-3 : tie.Need-same-length-3
 unfolding run signOf widthOf
-same-length-3 c = omega (arith, ((go-on ((done (c .before .before .before .before .before .before .before .before .before .before .before .before .before .before .number .given .1) (c .before .before .before .before .before .before .before .before .before .before .before .before .before .before .before .before .before .before .write-run .ensures .0 0 names.count (rest (c .before .before .before .before .before .before .before .before .before .before .before .before .before .before .before .before .before .before .before .before .before .before .before .args .accel) (c .before .before .before .before .before .before .before .before .before .before .before .before .before .before .before .before .before .before .before .before .before .before .before .args .cov))))) (done (c .before .before .before .before .before .before .before .each .given .1) (c .before .before .before .before .before .before .before .before .before .before .before .write-each .ensures (covariance (c .before .before .before .before .before .before .before .before .before .before .before .before .before .before .before .before .before .before .before .before .before .before .before .args .cov)))))) .long)
+same-length-3 c =
+    let a = c .before .before .before .before .before .before .before .before .before .before .before .before .before .before .before .before .before .before .before .before .before .before .before .args in
+    let each′ = c .before .before .before .before .before .before .before .each in
+    let number = c .before .before .before .before .before .before .before .before .before .before .before .before .before .before .number in
+    let write-each = c .before .before .before .before .before .before .before .before .before .before .before .write-each in
+    let write-run = c .before .before .before .before .before .before .before .before .before .before .before .before .before .before .before .before .before .before .write-run in
+    omega (
+      arith,
+      ((go-on ((done (number .given .1) (write-run .ensures .0 0 names.count (rest (a .accel) (a .cov)))))
+          (done (each′ .given .1) (write-each .ensures (covariance (a .cov)))))) .long,
+    )
 
 returns-3 : tie.Need-returns-3
 unfolding run signOf widthOf
-returns-3 c = then ((go-on ((done (c .before .before .before .before .before .before .before .before .before .before .before .before .before .before .number .given .1) (c .before .before .before .before .before .before .before .before .before .before .before .before .before .before .before .before .before .before .write-run .ensures .0 0 names.count (rest (c .before .before .before .before .before .before .before .before .before .before .before .before .before .before .before .before .before .before .before .before .before .before .before .args .accel) (c .before .before .before .before .before .before .before .before .before .before .before .before .before .before .before .before .before .before .before .before .before .before .before .args .cov))))) (done (c .before .before .before .before .before .before .before .each .given .1) (c .before .before .before .before .before .before .before .before .before .before .before .write-each .ensures (covariance (c .before .before .before .before .before .before .before .before .before .before .before .before .before .before .before .before .before .before .before .before .before .before .before .args .cov)))))) (starts (when-yes _ _ _ _ _ _ (eq-eqb _ _ (c .before .before .before .before .before .if1 .taken))) (c .before .before .write-needed .ensures .0 0 names.covariance (λ _. end)))
+returns-3 c =
+    let a = c .before .before .before .before .before .before .before .before .before .before .before .before .before .before .before .before .before .before .before .before .before .before .before .args in
+    let each′ = c .before .before .before .before .before .before .before .each in
+    let number = c .before .before .before .before .before .before .before .before .before .before .before .before .before .before .number in
+    let write-each = c .before .before .before .before .before .before .before .before .before .before .before .write-each in
+    let write-run = c .before .before .before .before .before .before .before .before .before .before .before .before .before .before .before .before .before .before .write-run in
+    then
+    ((go-on ((done (number .given .1) (write-run .ensures .0 0 names.count (rest (a .accel) (a .cov)))))
+    (done (each′ .given .1) (write-each .ensures (covariance (a .cov))))))
+    (starts (when-yes _ _ _ _ _ _ (eq-eqb _ _ (c .before .before .before .before .before .if1 .taken)))
+    (c .before .before .write-needed .ensures .0 0 names.covariance (λ _. end)))
 
 same-length-4 : tie.Need-same-length-4
 unfolding run signOf widthOf
-same-length-4 c = omega (arith, ((go-on ((done (c .before .before .before .before .before .before .before .before .before .number .given .1) (c .before .before .before .before .before .before .before .before .before .before .before .before .before .write-run .ensures .0 0 names.count (rest (c .before .before .before .before .before .before .before .before .before .before .before .before .before .before .before .before .before .before .args .accel) (c .before .before .before .before .before .before .before .before .before .before .before .before .before .before .before .before .before .before .args .cov))))) (done (c .before .before .each .given .1) (c .before .before .before .before .before .before .write-each .ensures (covariance (c .before .before .before .before .before .before .before .before .before .before .before .before .before .before .before .before .before .before .args .cov)))))) .long)
+same-length-4 c =
+    let a = c .before .before .before .before .before .before .before .before .before .before .before .before .before .before .before .before .before .before .args in
+    let number = c .before .before .before .before .before .before .before .before .before .number in
+    let write-each = c .before .before .before .before .before .before .write-each in
+    let write-run = c .before .before .before .before .before .before .before .before .before .before .before .before .before .write-run in
+    omega (
+      arith,
+      ((go-on ((done (number .given .1) (write-run .ensures .0 0 names.count (rest (a .accel) (a .cov)))))
+          (done (c .before .before .each .given .1) (write-each .ensures (covariance (a .cov)))))) .long,
+    )
 
 returns-4 : tie.Need-returns-4
 unfolding run signOf widthOf
-returns-4 c = then ((go-on ((done (c .before .before .before .before .before .before .before .before .before .number .given .1) (c .before .before .before .before .before .before .before .before .before .before .before .before .before .write-run .ensures .0 0 names.count (rest (c .before .before .before .before .before .before .before .before .before .before .before .before .before .before .before .before .before .before .args .accel) (c .before .before .before .before .before .before .before .before .before .before .before .before .before .before .before .before .before .before .args .cov))))) (done (c .before .before .each .given .1) (c .before .before .before .before .before .before .write-each .ensures (covariance (c .before .before .before .before .before .before .before .before .before .before .before .before .before .before .before .before .before .before .args .cov)))))) (starts (when-no _ _ _ _ _ _ (ne-eqb _ _ (c .if1 .left))) (record { to = stay (((go-on ((done (c .before .before .before .before .before .before .before .before .before .number .given .1) (c .before .before .before .before .before .before .before .before .before .before .before .before .before .write-run .ensures .0 0 names.count (rest (c .before .before .before .before .before .before .before .before .before .before .before .before .before .before .before .before .before .before .args .accel) (c .before .before .before .before .before .before .before .before .before .before .before .before .before .before .before .before .before .before .args .cov))))) (done (c .before .before .each .given .1) (c .before .before .before .before .before .before .write-each .ensures (covariance (c .before .before .before .before .before .before .before .before .before .before .before .before .before .before .before .before .before .before .args .cov)))))) .within) }))
+returns-4 c =
+    let a = c .before .before .before .before .before .before .before .before .before .before .before .before .before .before .before .before .before .before .args in
+    let number = c .before .before .before .before .before .before .before .before .before .number in
+    let write-each = c .before .before .before .before .before .before .write-each in
+    let write-run = c .before .before .before .before .before .before .before .before .before .before .before .before .before .write-run in
+    then
+    ((go-on ((done (number .given .1) (write-run .ensures .0 0 names.count (rest (a .accel) (a .cov)))))
+    (done (c .before .before .each .given .1) (write-each .ensures (covariance (a .cov))))))
+    (starts (when-no _ _ _ _ _ _ (ne-eqb _ _ (c .if1 .left)))
+    (record {
+      to = stay (((go-on ((done (number .given .1) (write-run .ensures .0 0 names.count (rest (a .accel) (a .cov)))))
+          (done (c .before .before .each .given .1) (write-each .ensures (covariance (a .cov)))))) .within);
+    }))
 
 pub write-ephemerides-spec : {M : Type 1} → statement M
 write-ephemerides-spec =

@@ -31,11 +31,19 @@ same-length c = search needs
 
 returns : tie.Need-returns
 unfolding run signOf widthOf
-returns c = λ s. stops (c .enum-told .given .1) (c .before .before .before .before .write-needed .ensures .0 0 names.metadata (λ _. rest (c .before .before .before .before .before .before .before .before .before .args .start) (c .before .before .before .before .before .before .before .before .before .args .stop) s))
+returns c =
+    let a = c .before .before .before .before .before .before .before .before .before .args in
+    λ s. stops (c .enum-told .given .1)
+    (c .before .before .before .before .write-needed .ensures .0 0 names.metadata (λ _. rest (a .start) (a .stop) s))
 
 write-usable-requires : tie.Need-write-usable-requires
 unfolding run signOf widthOf
-write-usable-requires c κs = let s : Syntax = end in placed-on (c .before .before .before .before .before .before .before .before .before .before .before .pre) ((done (c .before .before .fixed .given .1) (c .before .before .before .before .before .before .write-needed .ensures .0 0 names.metadata (λ _. rest (c .before .before .before .before .before .before .before .before .before .before .before .args .start) (c .before .before .before .before .before .before .before .before .before .before .before .args .stop) s))))
+write-usable-requires c κs =
+    let a = c .before .before .before .before .before .before .before .before .before .before .before .args in
+    let pre = c .before .before .before .before .before .before .before .before .before .before .before .pre in
+    let write-needed = c .before .before .before .before .before .before .write-needed in
+    let s : Syntax = end in placed-on pre
+    ((done (c .before .before .fixed .given .1) (write-needed .ensures .0 0 names.metadata (λ _. rest (a .start) (a .stop) s))))
 
 enum-known-from : tie.Need-enum-known-from
 enum-known-from c = search needs
@@ -48,18 +56,41 @@ same-length-2 c = search needs
 
 returns-2 : tie.Need-returns-2
 unfolding run signOf widthOf
-returns-2 c = λ s. then ((done (c .before .before .before .before .before .before .before .fixed .given .1) (c .before .before .before .before .before .before .before .before .before .before .before .write-needed .ensures .0 0 names.metadata (λ _. rest (c .before .before .before .before .before .before .before .before .before .before .before .before .before .before .before .before .args .start) (c .before .before .before .before .before .before .before .before .before .before .before .before .before .before .before .before .args .stop) s)))) (stops (c .enum-told2 .given .1) (c .before .before .before .before .write-usable .ensures "usable_start_time" (usable 18 "usable_stop_time" (c .before .before .before .before .before .before .before .before .before .before .before .before .before .before .before .before .args .stop) s)))
+returns-2 c =
+    let a = c .before .before .before .before .before .before .before .before .before .before .before .before .before .before .before .before .args in
+    let fixed = c .before .before .before .before .before .before .before .fixed in
+    let write-needed = c .before .before .before .before .before .before .before .before .before .before .before .write-needed in
+    λ s. then ((done (fixed .given .1) (write-needed .ensures .0 0 names.metadata (λ _. rest (a .start) (a .stop) s))))
+    (stops (c .enum-told2 .given .1)
+    (c .before .before .before .before .write-usable .ensures "usable_start_time" (usable 18 "usable_stop_time" (a .stop) s)))
 
 write-usable-requires-2 : tie.Need-write-usable-requires-2
 unfolding run signOf widthOf
-write-usable-requires-2 c κs = let s : Syntax = end in placed-on (c .before .before .before .before .before .before .before .before .before .before .before .before .before .before .before .before .before .before .pre) ((go-on ((done (c .before .before .before .before .before .before .before .before .before .fixed .given .1) (c .before .before .before .before .before .before .before .before .before .before .before .before .before .write-needed .ensures .0 0 names.metadata (λ _. rest (c .before .before .before .before .before .before .before .before .before .before .before .before .before .before .before .before .before .before .args .start) (c .before .before .before .before .before .before .before .before .before .before .before .before .before .before .before .before .before .before .args .stop) s)))) (done (c .before .before .from .given .1) (c .before .before .before .before .before .before .write-usable .ensures "usable_start_time" (usable 18 "usable_stop_time" (c .before .before .before .before .before .before .before .before .before .before .before .before .before .before .before .before .before .before .args .stop) s)))))
+write-usable-requires-2 c κs =
+    let a = c .before .before .before .before .before .before .before .before .before .before .before .before .before .before .before .before .before .before .args in
+    let fixed = c .before .before .before .before .before .before .before .before .before .fixed in
+    let pre = c .before .before .before .before .before .before .before .before .before .before .before .before .before .before .before .before .before .before .pre in
+    let write-needed = c .before .before .before .before .before .before .before .before .before .before .before .before .before .write-needed in
+    let write-usable = c .before .before .before .before .before .before .write-usable in
+    let s : Syntax = end in placed-on pre
+    ((go-on ((done (fixed .given .1) (write-needed .ensures .0 0 names.metadata (λ _. rest (a .start) (a .stop) s))))
+    (done (c .before .before .from .given .1) (write-usable .ensures "usable_start_time" (usable 18 "usable_stop_time" (a .stop) s)))))
 
 same-length-3 : tie.Need-same-length-3
 same-length-3 c = search needs
 
 returns-3 : tie.Need-returns-3
 unfolding run signOf widthOf
-returns-3 c = λ s. then ((go-on ((done (c .before .before .before .before .before .before .before .before .before .before .before .before .fixed .given .1) (c .before .before .before .before .before .before .before .before .before .before .before .before .before .before .before .before .write-needed .ensures .0 0 names.metadata (λ _. rest (c .before .before .before .before .before .before .before .before .before .before .before .before .before .before .before .before .before .before .before .before .before .args .start) (c .before .before .before .before .before .before .before .before .before .before .before .before .before .before .before .before .before .before .before .before .before .args .stop) s)))) (done (c .before .before .before .before .before .from .given .1) (c .before .before .before .before .before .before .before .before .before .write-usable .ensures "usable_start_time" (usable 18 "usable_stop_time" (c .before .before .before .before .before .before .before .before .before .before .before .before .before .before .before .before .before .before .before .before .before .args .stop) s))))) (c .before .before .write-usable2 .ensures "usable_stop_time" s)
+returns-3 c =
+    let a = c .before .before .before .before .before .before .before .before .before .before .before .before .before .before .before .before .before .before .before .before .before .args in
+    let fixed = c .before .before .before .before .before .before .before .before .before .before .before .before .fixed in
+    let write-needed = c .before .before .before .before .before .before .before .before .before .before .before .before .before .before .before .before .write-needed in
+    let write-usable = c .before .before .before .before .before .before .before .before .before .write-usable in
+    λ s. then
+    ((go-on ((done (fixed .given .1) (write-needed .ensures .0 0 names.metadata (λ _. rest (a .start) (a .stop) s))))
+    (done (c .before .before .before .before .before .from .given .1)
+    (write-usable .ensures "usable_start_time" (usable 18 "usable_stop_time" (a .stop) s)))))
+    (c .before .before .write-usable2 .ensures "usable_stop_time" s)
 
 pub write-metadata-spec : {M : Type 1} → statement M
 write-metadata-spec =

@@ -40,7 +40,10 @@ slice-aggregate-write-run-2 c = search needs
 
 write-run-requires-2 : tie.Need-write-run-requires-2
 unfolding run signOf widthOf
-write-run-requires-2 c κs = (placed-on (c .before .before .before .before .before .before .before .before .before .before .before .before .pre) ((done (c .before .before .before .first .given .1) (c .before .before .before .before .before .before .before .write-run .ensures .0 0 names.satellite3 second))), tt)
+write-run-requires-2 c κs =
+    let pre = c .before .before .before .before .before .before .before .before .before .before .before .before .pre in
+    let write-run = c .before .before .before .before .before .before .before .write-run in
+    (placed-on pre ((done (c .before .before .before .first .given .1) (write-run .ensures .0 0 names.satellite3 second))), tt)
 
 enum-known-second : tie.Need-enum-known-second
 enum-known-second c = search needs
@@ -53,19 +56,48 @@ same-length-2 c = search needs
 
 returns-2 : tie.Need-returns-2
 unfolding position3 run signOf widthOf
-returns-2 c = then ((done (c .before .before .before .before .before .before .before .before .first .given .1) (c .before .before .before .before .before .before .before .before .before .before .before .before .write-run .ensures .0 0 names.satellite3 second))) (stops (c .enum-told2 .given .1) (c .before .before .before .before .write-run2 .ensures .0 0 names.start ((unflagged (c .before .before .before .before .before .before .before .before .first .given .0 .1 .1 .0)))))
+returns-2 c =
+    let first = c .before .before .before .before .before .before .before .before .first in
+    let write-run = c .before .before .before .before .before .before .before .before .before .before .before .before .write-run in
+    then ((done (first .given .1) (write-run .ensures .0 0 names.satellite3 second)))
+    (stops (c .enum-told2 .given .1)
+    (c .before .before .before .before .write-run2 .ensures .0 0 names.start ((unflagged (first .given .0 .1 .1 .0)))))
 
 write-unflagged-requires : tie.Need-write-unflagged-requires
 unfolding run signOf widthOf
-write-unflagged-requires c κs = placed-on (c .before .before .before .before .before .before .before .before .before .before .before .before .before .before .before .before .before .before .before .pre) ((go-on ((done (c .before .before .before .before .before .before .before .before .before .before .first .given .1) (c .before .before .before .before .before .before .before .before .before .before .before .before .before .before .write-run .ensures .0 0 names.satellite3 second))) (done (c .before .before .second .given .1) (c .before .before .before .before .before .before .write-run2 .ensures .0 0 names.start ((unflagged (c .before .before .before .before .before .before .before .before .before .before .first .given .0 .1 .1 .0)))))))
+write-unflagged-requires c κs =
+    let first = c .before .before .before .before .before .before .before .before .before .before .first in
+    let pre = c .before .before .before .before .before .before .before .before .before .before .before .before .before .before .before .before .before .before .before .pre in
+    let write-run = c .before .before .before .before .before .before .before .before .before .before .before .before .before .before .write-run in
+    let write-run2 = c .before .before .before .before .before .before .write-run2 in
+    placed-on pre
+    ((go-on ((done (first .given .1) (write-run .ensures .0 0 names.satellite3 second)))
+    (done (c .before .before .second .given .1) (write-run2 .ensures .0 0 names.start ((unflagged (first .given .0 .1 .1 .0)))))))
 
 same-length-3 : tie.Need-same-length-3
 unfolding run signOf widthOf
-same-length-3 c = omega (arith, ((go-on ((done (c .before .before .before .before .before .before .before .before .before .before .before .before .before .first .given .1) (c .before .before .before .before .before .before .before .before .before .before .before .before .before .before .before .before .before .write-run .ensures .0 0 names.satellite3 second))) (done (c .before .before .before .before .before .second .given .1) (c .before .before .before .before .before .before .before .before .before .write-run2 .ensures .0 0 names.start ((unflagged (c .before .before .before .before .before .before .before .before .before .before .before .before .before .first .given .0 .1 .1 .0))))))) .long)
+same-length-3 c =
+    let first = c .before .before .before .before .before .before .before .before .before .before .before .before .before .first in
+    let write-run = c .before .before .before .before .before .before .before .before .before .before .before .before .before .before .before .before .before .write-run in
+    let write-run2 = c .before .before .before .before .before .before .before .before .before .write-run2 in
+    omega (
+      arith,
+      ((go-on ((done (first .given .1) (write-run .ensures .0 0 names.satellite3 second)))
+          (done (c .before .before .before .before .before .second .given .1)
+          (write-run2 .ensures .0 0 names.start ((unflagged (first .given .0 .1 .1 .0))))))) .long,
+    )
 
 returns-3 : tie.Need-returns-3
 unfolding position3 run signOf widthOf
-returns-3 c = then ((go-on ((done (c .before .before .before .before .before .before .before .before .before .before .before .before .before .first .given .1) (c .before .before .before .before .before .before .before .before .before .before .before .before .before .before .before .before .before .write-run .ensures .0 0 names.satellite3 second))) (done (c .before .before .before .before .before .second .given .1) (c .before .before .before .before .before .before .before .before .before .write-run2 .ensures .0 0 names.start ((unflagged (c .before .before .before .before .before .before .before .before .before .before .before .before .before .first .given .0 .1 .1 .0))))))) (c .before .before .write-unflagged .ensures)
+returns-3 c =
+    let first = c .before .before .before .before .before .before .before .before .before .before .before .before .before .first in
+    let write-run = c .before .before .before .before .before .before .before .before .before .before .before .before .before .before .before .before .before .write-run in
+    let write-run2 = c .before .before .before .before .before .before .before .before .before .write-run2 in
+    then
+    ((go-on ((done (first .given .1) (write-run .ensures .0 0 names.satellite3 second)))
+    (done (c .before .before .before .before .before .second .given .1)
+    (write-run2 .ensures .0 0 names.start ((unflagged (first .given .0 .1 .1 .0)))))))
+    (c .before .before .write-unflagged .ensures)
 
 pub write-position3-spec : {M : Type 1} → statement M
 write-position3-spec =

@@ -36,14 +36,20 @@ same-length c = search needs
 
 returns : tie.Need-returns
 unfolding run signOf widthOf
-returns c = stops (c .enum-told .given .1) (c .before .before .before .before .write-run .ensures .0 0 names.stop ((third (c .before .before .before .before .before .before .before .before .before .args .meta) (c .before .before .before .before .before .before .before .before .before .args .start))))
+returns c =
+    let a = c .before .before .before .before .before .before .before .before .before .args in
+    stops (c .enum-told .given .1) (c .before .before .before .before .write-run .ensures .0 0 names.stop ((third (a .meta) (a .start))))
 
 slice-aggregate-write-run-2 : tie.Need-slice-aggregate-write-run-2
 slice-aggregate-write-run-2 c = search needs
 
 write-run-requires-2 : tie.Need-write-run-requires-2
 unfolding run signOf widthOf
-write-run-requires-2 c κs = (placed-on (c .before .before .before .before .before .before .before .before .before .before .before .before .pre) ((done (c .before .before .before .third .given .1) (c .before .before .before .before .before .before .before .write-run .ensures .0 0 names.stop ((third (c .before .before .before .before .before .before .before .before .before .before .before .before .args .meta) (c .before .before .before .before .before .before .before .before .before .before .before .before .args .start)))))), tt)
+write-run-requires-2 c κs =
+    let a = c .before .before .before .before .before .before .before .before .before .before .before .before .args in
+    let pre = c .before .before .before .before .before .before .before .before .before .before .before .before .pre in
+    let write-run = c .before .before .before .before .before .before .before .write-run in
+    (placed-on pre ((done (c .before .before .before .third .given .1) (write-run .ensures .0 0 names.stop ((third (a .meta) (a .start)))))), tt)
 
 enum-known-fourth : tie.Need-enum-known-fourth
 enum-known-fourth c = search needs
@@ -56,14 +62,31 @@ same-length-2 c = search needs
 
 returns-2 : tie.Need-returns-2
 unfolding run signOf widthOf
-returns-2 c = then ((done (c .before .before .before .before .before .before .before .before .third .given .1) (c .before .before .before .before .before .before .before .before .before .before .before .before .write-run .ensures .0 0 names.stop ((third (c .before .before .before .before .before .before .before .before .before .before .before .before .before .before .before .before .before .args .meta) (c .before .before .before .before .before .before .before .before .before .before .before .before .before .before .before .before .before .args .start)))))) (stops (c .enum-told2 .given .1) (c .before .before .before .before .write-run2 .ensures .0 0 names.accel ((fourth (c .before .before .before .before .before .before .before .before .before .before .before .before .before .before .before .before .before .args .meta) (c .before .before .before .before .before .before .before .before .before .before .before .before .before .before .before .before .before .args .start) (c .before .before .before .before .before .before .before .before .third .given .0 .1 .1 .0)))))
+returns-2 c =
+    let a = c .before .before .before .before .before .before .before .before .before .before .before .before .before .before .before .before .before .args in
+    let third′ = c .before .before .before .before .before .before .before .before .third in
+    let write-run = c .before .before .before .before .before .before .before .before .before .before .before .before .write-run in
+    then ((done (third′ .given .1) (write-run .ensures .0 0 names.stop ((third (a .meta) (a .start))))))
+    (stops (c .enum-told2 .given .1)
+    (c .before .before .before .before .write-run2 .ensures .0 0 names.accel ((fourth (a .meta) (a .start) (third′ .given .0 .1 .1 .0)))))
 
 slice-aggregate-write-run-3 : tie.Need-slice-aggregate-write-run-3
 slice-aggregate-write-run-3 c = search needs
 
 write-run-requires-3 : tie.Need-write-run-requires-3
 unfolding run signOf widthOf
-write-run-requires-3 c κs = (placed-on (c .before .before .before .before .before .before .before .before .before .before .before .before .before .before .before .before .before .before .before .before .pre) ((go-on ((done (c .before .before .before .before .before .before .before .before .before .before .before .third .given .1) (c .before .before .before .before .before .before .before .before .before .before .before .before .before .before .before .write-run .ensures .0 0 names.stop ((third (c .before .before .before .before .before .before .before .before .before .before .before .before .before .before .before .before .before .before .before .before .args .meta) (c .before .before .before .before .before .before .before .before .before .before .before .before .before .before .before .before .before .before .before .before .args .start)))))) (done (c .before .before .before .fourth .given .1) (c .before .before .before .before .before .before .before .write-run2 .ensures .0 0 names.accel ((fourth (c .before .before .before .before .before .before .before .before .before .before .before .before .before .before .before .before .before .before .before .before .args .meta) (c .before .before .before .before .before .before .before .before .before .before .before .before .before .before .before .before .before .before .before .before .args .start) (c .before .before .before .before .before .before .before .before .before .before .before .third .given .0 .1 .1 .0))))))), tt)
+write-run-requires-3 c κs =
+    let a = c .before .before .before .before .before .before .before .before .before .before .before .before .before .before .before .before .before .before .before .before .args in
+    let pre = c .before .before .before .before .before .before .before .before .before .before .before .before .before .before .before .before .before .before .before .before .pre in
+    let third′ = c .before .before .before .before .before .before .before .before .before .before .before .third in
+    let write-run = c .before .before .before .before .before .before .before .before .before .before .before .before .before .before .before .write-run in
+    let write-run2 = c .before .before .before .before .before .before .before .write-run2 in (
+      placed-on pre
+          ((go-on ((done (third′ .given .1) (write-run .ensures .0 0 names.stop ((third (a .meta) (a .start))))))
+          (done (c .before .before .before .fourth .given .1)
+          (write-run2 .ensures .0 0 names.accel ((fourth (a .meta) (a .start) (third′ .given .0 .1 .1 .0))))))),
+      tt,
+    )
 
 enum-known-fifth : tie.Need-enum-known-fifth
 enum-known-fifth c = search needs
@@ -73,23 +96,91 @@ enum-told-3 c = search needs
 
 same-length-3 : tie.Need-same-length-3
 unfolding run signOf widthOf
-same-length-3 c = omega (arith, ((go-on ((done (c .before .before .before .before .before .before .before .before .before .before .before .before .before .before .before .before .third .given .1) (c .before .before .before .before .before .before .before .before .before .before .before .before .before .before .before .before .before .before .before .before .write-run .ensures .0 0 names.stop ((third (c .before .before .before .before .before .before .before .before .before .before .before .before .before .before .before .before .before .before .before .before .before .before .before .before .before .args .meta) (c .before .before .before .before .before .before .before .before .before .before .before .before .before .before .before .before .before .before .before .before .before .before .before .before .before .args .start)))))) (done (c .before .before .before .before .before .before .before .before .fourth .given .1) (c .before .before .before .before .before .before .before .before .before .before .before .before .write-run2 .ensures .0 0 names.accel ((fourth (c .before .before .before .before .before .before .before .before .before .before .before .before .before .before .before .before .before .before .before .before .before .before .before .before .before .args .meta) (c .before .before .before .before .before .before .before .before .before .before .before .before .before .before .before .before .before .before .before .before .before .before .before .before .before .args .start) (c .before .before .before .before .before .before .before .before .before .before .before .before .before .before .before .before .third .given .0 .1 .1 .0))))))) .long)
+same-length-3 c =
+    let a = c .before .before .before .before .before .before .before .before .before .before .before .before .before .before .before .before .before .before .before .before .before .before .before .before .before .args in
+    let fourth′ = c .before .before .before .before .before .before .before .before .fourth in
+    let third′ = c .before .before .before .before .before .before .before .before .before .before .before .before .before .before .before .before .third in
+    let write-run = c .before .before .before .before .before .before .before .before .before .before .before .before .before .before .before .before .before .before .before .before .write-run in
+    let write-run2 = c .before .before .before .before .before .before .before .before .before .before .before .before .write-run2 in
+    omega (
+      arith,
+      ((go-on ((done (third′ .given .1) (write-run .ensures .0 0 names.stop ((third (a .meta) (a .start))))))
+          (done (fourth′ .given .1)
+          (write-run2 .ensures .0 0 names.accel ((fourth (a .meta) (a .start) (third′ .given .0 .1 .1 .0))))))) .long,
+    )
 
 returns-3 : tie.Need-returns-3
 unfolding run signOf widthOf
-returns-3 c = then ((go-on ((done (c .before .before .before .before .before .before .before .before .before .before .before .before .before .before .before .before .third .given .1) (c .before .before .before .before .before .before .before .before .before .before .before .before .before .before .before .before .before .before .before .before .write-run .ensures .0 0 names.stop ((third (c .before .before .before .before .before .before .before .before .before .before .before .before .before .before .before .before .before .before .before .before .before .before .before .before .before .args .meta) (c .before .before .before .before .before .before .before .before .before .before .before .before .before .before .before .before .before .before .before .before .before .before .before .before .before .args .start)))))) (done (c .before .before .before .before .before .before .before .before .fourth .given .1) (c .before .before .before .before .before .before .before .before .before .before .before .before .write-run2 .ensures .0 0 names.accel ((fourth (c .before .before .before .before .before .before .before .before .before .before .before .before .before .before .before .before .before .before .before .before .before .before .before .before .before .args .meta) (c .before .before .before .before .before .before .before .before .before .before .before .before .before .before .before .before .before .before .before .before .before .before .before .before .before .args .start) (c .before .before .before .before .before .before .before .before .before .before .before .before .before .before .before .before .third .given .0 .1 .1 .0))))))) (stops (c .enum-told3 .given .1) (c .before .before .before .before .write-run3 .ensures .0 0 names.cov ((flagged (c .before .before .before .before .before .before .before .before .before .before .before .before .before .before .before .before .before .before .before .before .before .before .before .before .before .args .meta) (c .before .before .before .before .before .before .before .before .before .before .before .before .before .before .before .before .before .before .before .before .before .before .before .before .before .args .start) (c .before .before .before .before .before .before .before .before .before .before .before .before .before .before .before .before .third .given .0 .1 .1 .0) (c .before .before .before .before .before .before .before .before .fourth .given .0 .1 .1 .0)))))
+returns-3 c =
+    let a = c .before .before .before .before .before .before .before .before .before .before .before .before .before .before .before .before .before .before .before .before .before .before .before .before .before .args in
+    let fourth′ = c .before .before .before .before .before .before .before .before .fourth in
+    let third′ = c .before .before .before .before .before .before .before .before .before .before .before .before .before .before .before .before .third in
+    let write-run = c .before .before .before .before .before .before .before .before .before .before .before .before .before .before .before .before .before .before .before .before .write-run in
+    let write-run2 = c .before .before .before .before .before .before .before .before .before .before .before .before .write-run2 in
+    then
+    ((go-on ((done (third′ .given .1) (write-run .ensures .0 0 names.stop ((third (a .meta) (a .start))))))
+    (done (fourth′ .given .1) (write-run2 .ensures .0 0 names.accel ((fourth (a .meta) (a .start) (third′ .given .0 .1 .1 .0)))))))
+    (stops (c .enum-told3 .given .1)
+    (c .before .before .before .before .write-run3 .ensures .0 0 names.cov
+    ((flagged (a .meta) (a .start) (third′ .given .0 .1 .1 .0) (fourth′ .given .0 .1 .1 .0)))))
 
 write-flagged-requires : tie.Need-write-flagged-requires
 unfolding run signOf widthOf
-write-flagged-requires c κs = placed-on (c .before .before .before .before .before .before .before .before .before .before .before .before .before .before .before .before .before .before .before .before .before .before .before .before .before .before .before .pre) ((go-on ((go-on ((done (c .before .before .before .before .before .before .before .before .before .before .before .before .before .before .before .before .before .before .third .given .1) (c .before .before .before .before .before .before .before .before .before .before .before .before .before .before .before .before .before .before .before .before .before .before .write-run .ensures .0 0 names.stop ((third (c .before .before .before .before .before .before .before .before .before .before .before .before .before .before .before .before .before .before .before .before .before .before .before .before .before .before .before .args .meta) (c .before .before .before .before .before .before .before .before .before .before .before .before .before .before .before .before .before .before .before .before .before .before .before .before .before .before .before .args .start)))))) (done (c .before .before .before .before .before .before .before .before .before .before .fourth .given .1) (c .before .before .before .before .before .before .before .before .before .before .before .before .before .before .write-run2 .ensures .0 0 names.accel ((fourth (c .before .before .before .before .before .before .before .before .before .before .before .before .before .before .before .before .before .before .before .before .before .before .before .before .before .before .before .args .meta) (c .before .before .before .before .before .before .before .before .before .before .before .before .before .before .before .before .before .before .before .before .before .before .before .before .before .before .before .args .start) (c .before .before .before .before .before .before .before .before .before .before .before .before .before .before .before .before .before .before .third .given .0 .1 .1 .0))))))) (done (c .before .before .fifth .given .1) (c .before .before .before .before .before .before .write-run3 .ensures .0 0 names.cov ((flagged (c .before .before .before .before .before .before .before .before .before .before .before .before .before .before .before .before .before .before .before .before .before .before .before .before .before .before .before .args .meta) (c .before .before .before .before .before .before .before .before .before .before .before .before .before .before .before .before .before .before .before .before .before .before .before .before .before .before .before .args .start) (c .before .before .before .before .before .before .before .before .before .before .before .before .before .before .before .before .before .before .third .given .0 .1 .1 .0) (c .before .before .before .before .before .before .before .before .before .before .fourth .given .0 .1 .1 .0)))))))
+write-flagged-requires c κs =
+    let a = c .before .before .before .before .before .before .before .before .before .before .before .before .before .before .before .before .before .before .before .before .before .before .before .before .before .before .before .args in
+    let fourth′ = c .before .before .before .before .before .before .before .before .before .before .fourth in
+    let pre = c .before .before .before .before .before .before .before .before .before .before .before .before .before .before .before .before .before .before .before .before .before .before .before .before .before .before .before .pre in
+    let third′ = c .before .before .before .before .before .before .before .before .before .before .before .before .before .before .before .before .before .before .third in
+    let write-run = c .before .before .before .before .before .before .before .before .before .before .before .before .before .before .before .before .before .before .before .before .before .before .write-run in
+    let write-run2 = c .before .before .before .before .before .before .before .before .before .before .before .before .before .before .write-run2 in
+    let write-run3 = c .before .before .before .before .before .before .write-run3 in
+    placed-on pre
+    ((go-on
+    ((go-on ((done (third′ .given .1) (write-run .ensures .0 0 names.stop ((third (a .meta) (a .start))))))
+    (done (fourth′ .given .1)
+    (write-run2 .ensures .0 0 names.accel ((fourth (a .meta) (a .start) (third′ .given .0 .1 .1 .0)))))))
+    (done (c .before .before .fifth .given .1)
+    (write-run3 .ensures .0 0 names.cov
+    ((flagged (a .meta) (a .start) (third′ .given .0 .1 .1 .0) (fourth′ .given .0 .1 .1 .0)))))))
 
 same-length-4 : tie.Need-same-length-4
 unfolding run signOf widthOf
-same-length-4 c = omega (arith, ((go-on ((go-on ((done (c .before .before .before .before .before .before .before .before .before .before .before .before .before .before .before .before .before .before .before .before .before .third .given .1) (c .before .before .before .before .before .before .before .before .before .before .before .before .before .before .before .before .before .before .before .before .before .before .before .before .before .write-run .ensures .0 0 names.stop ((third (c .before .before .before .before .before .before .before .before .before .before .before .before .before .before .before .before .before .before .before .before .before .before .before .before .before .before .before .before .before .before .args .meta) (c .before .before .before .before .before .before .before .before .before .before .before .before .before .before .before .before .before .before .before .before .before .before .before .before .before .before .before .before .before .before .args .start)))))) (done (c .before .before .before .before .before .before .before .before .before .before .before .before .before .fourth .given .1) (c .before .before .before .before .before .before .before .before .before .before .before .before .before .before .before .before .before .write-run2 .ensures .0 0 names.accel ((fourth (c .before .before .before .before .before .before .before .before .before .before .before .before .before .before .before .before .before .before .before .before .before .before .before .before .before .before .before .before .before .before .args .meta) (c .before .before .before .before .before .before .before .before .before .before .before .before .before .before .before .before .before .before .before .before .before .before .before .before .before .before .before .before .before .before .args .start) (c .before .before .before .before .before .before .before .before .before .before .before .before .before .before .before .before .before .before .before .before .before .third .given .0 .1 .1 .0))))))) (done (c .before .before .before .before .before .fifth .given .1) (c .before .before .before .before .before .before .before .before .before .write-run3 .ensures .0 0 names.cov ((flagged (c .before .before .before .before .before .before .before .before .before .before .before .before .before .before .before .before .before .before .before .before .before .before .before .before .before .before .before .before .before .before .args .meta) (c .before .before .before .before .before .before .before .before .before .before .before .before .before .before .before .before .before .before .before .before .before .before .before .before .before .before .before .before .before .before .args .start) (c .before .before .before .before .before .before .before .before .before .before .before .before .before .before .before .before .before .before .before .before .before .third .given .0 .1 .1 .0) (c .before .before .before .before .before .before .before .before .before .before .before .before .before .fourth .given .0 .1 .1 .0))))))) .long)
+same-length-4 c =
+    let a = c .before .before .before .before .before .before .before .before .before .before .before .before .before .before .before .before .before .before .before .before .before .before .before .before .before .before .before .before .before .before .args in
+    let fourth′ = c .before .before .before .before .before .before .before .before .before .before .before .before .before .fourth in
+    let third′ = c .before .before .before .before .before .before .before .before .before .before .before .before .before .before .before .before .before .before .before .before .before .third in
+    let write-run = c .before .before .before .before .before .before .before .before .before .before .before .before .before .before .before .before .before .before .before .before .before .before .before .before .before .write-run in
+    let write-run2 = c .before .before .before .before .before .before .before .before .before .before .before .before .before .before .before .before .before .write-run2 in
+    let write-run3 = c .before .before .before .before .before .before .before .before .before .write-run3 in
+    omega (
+      arith,
+      ((go-on
+          ((go-on ((done (third′ .given .1) (write-run .ensures .0 0 names.stop ((third (a .meta) (a .start))))))
+          (done (fourth′ .given .1)
+          (write-run2 .ensures .0 0 names.accel ((fourth (a .meta) (a .start) (third′ .given .0 .1 .1 .0)))))))
+          (done (c .before .before .before .before .before .fifth .given .1)
+          (write-run3 .ensures .0 0 names.cov
+          ((flagged (a .meta) (a .start) (third′ .given .0 .1 .1 .0) (fourth′ .given .0 .1 .1 .0))))))) .long,
+    )
 
 returns-4 : tie.Need-returns-4
 unfolding run signOf widthOf
-returns-4 c = then ((go-on ((go-on ((done (c .before .before .before .before .before .before .before .before .before .before .before .before .before .before .before .before .before .before .before .before .before .third .given .1) (c .before .before .before .before .before .before .before .before .before .before .before .before .before .before .before .before .before .before .before .before .before .before .before .before .before .write-run .ensures .0 0 names.stop ((third (c .before .before .before .before .before .before .before .before .before .before .before .before .before .before .before .before .before .before .before .before .before .before .before .before .before .before .before .before .before .before .args .meta) (c .before .before .before .before .before .before .before .before .before .before .before .before .before .before .before .before .before .before .before .before .before .before .before .before .before .before .before .before .before .before .args .start)))))) (done (c .before .before .before .before .before .before .before .before .before .before .before .before .before .fourth .given .1) (c .before .before .before .before .before .before .before .before .before .before .before .before .before .before .before .before .before .write-run2 .ensures .0 0 names.accel ((fourth (c .before .before .before .before .before .before .before .before .before .before .before .before .before .before .before .before .before .before .before .before .before .before .before .before .before .before .before .before .before .before .args .meta) (c .before .before .before .before .before .before .before .before .before .before .before .before .before .before .before .before .before .before .before .before .before .before .before .before .before .before .before .before .before .before .args .start) (c .before .before .before .before .before .before .before .before .before .before .before .before .before .before .before .before .before .before .before .before .before .third .given .0 .1 .1 .0))))))) (done (c .before .before .before .before .before .fifth .given .1) (c .before .before .before .before .before .before .before .before .before .write-run3 .ensures .0 0 names.cov ((flagged (c .before .before .before .before .before .before .before .before .before .before .before .before .before .before .before .before .before .before .before .before .before .before .before .before .before .before .before .before .before .before .args .meta) (c .before .before .before .before .before .before .before .before .before .before .before .before .before .before .before .before .before .before .before .before .before .before .before .before .before .before .before .before .before .before .args .start) (c .before .before .before .before .before .before .before .before .before .before .before .before .before .before .before .before .before .before .before .before .before .third .given .0 .1 .1 .0) (c .before .before .before .before .before .before .before .before .before .before .before .before .before .fourth .given .0 .1 .1 .0))))))) (c .before .before .write-flagged .ensures)
+returns-4 c =
+    let a = c .before .before .before .before .before .before .before .before .before .before .before .before .before .before .before .before .before .before .before .before .before .before .before .before .before .before .before .before .before .before .args in
+    let fourth′ = c .before .before .before .before .before .before .before .before .before .before .before .before .before .fourth in
+    let third′ = c .before .before .before .before .before .before .before .before .before .before .before .before .before .before .before .before .before .before .before .before .before .third in
+    let write-run = c .before .before .before .before .before .before .before .before .before .before .before .before .before .before .before .before .before .before .before .before .before .before .before .before .before .write-run in
+    let write-run2 = c .before .before .before .before .before .before .before .before .before .before .before .before .before .before .before .before .before .write-run2 in
+    let write-run3 = c .before .before .before .before .before .before .before .before .before .write-run3 in
+    then
+    ((go-on
+    ((go-on ((done (third′ .given .1) (write-run .ensures .0 0 names.stop ((third (a .meta) (a .start))))))
+    (done (fourth′ .given .1)
+    (write-run2 .ensures .0 0 names.accel ((fourth (a .meta) (a .start) (third′ .given .0 .1 .1 .0)))))))
+    (done (c .before .before .before .before .before .fifth .given .1)
+    (write-run3 .ensures .0 0 names.cov
+    ((flagged (a .meta) (a .start) (third′ .given .0 .1 .1 .0) (fourth′ .given .0 .1 .1 .0)))))))
+    (c .before .before .write-flagged .ensures)
 
 pub write-unflagged-spec : {M : Type 1} → statement M
 write-unflagged-spec =

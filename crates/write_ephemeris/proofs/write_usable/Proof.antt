@@ -20,7 +20,9 @@ same-length c = search needs
 
 returns : tie.Need-returns
 unfolding run signOf widthOf
-returns c = λ nm s. starts (when-yes _ _ _ _ _ _ (eq-eqb _ _ (c .before .before .before .before .before .if1 .taken))) (c .before .before .write-needed .ensures .0 0 (names.stamp nm []) (λ _. s))
+returns c =
+    λ nm s. starts (when-yes _ _ _ _ _ _ (eq-eqb _ _ (c .before .before .before .before .before .if1 .taken)))
+    (c .before .before .write-needed .ensures .0 0 (names.stamp nm []) (λ _. s))
 
 returns-2 : tie.Need-returns-2
 returns-2 c = λ nm s. starts (when-no _ _ _ _ _ _ (ne-eqb _ _ (c .if1 .left))) (record { to = stay (c .before .before .before .pre .within) })

@@ -33,7 +33,10 @@ slice-aggregate-write-run : tie.Need-slice-aggregate-write-run
 slice-aggregate-write-run c = search needs
 
 write-run-requires : tie.Need-write-run-requires
-write-run-requires c κs = (placed-on (c .before .before .before .before .before .before .before .before .before .before .before .before .pre .0) (done (c .before .before .before .size .given .1) (c .before .before .before .before .before .before .before .write-needed .ensures .0 0 sizeNames afterSize)), tt)
+write-run-requires c κs =
+    let pre = c .before .before .before .before .before .before .before .before .before .before .before .before .pre in
+    let write-needed = c .before .before .before .before .before .before .before .write-needed in
+    (placed-on (pre .0) (done (c .before .before .before .size .given .1) (write-needed .ensures .0 0 sizeNames afterSize)), tt)
 
 enum-known-current : tie.Need-enum-known-current
 enum-known-current c = search needs
@@ -46,21 +49,59 @@ same-length-2 c = search needs
 
 returns-2 : tie.Need-returns-2
 unfolding run signOf widthOf
-returns-2 c = λ e. then (done (c .before .before .before .before .before .before .before .before .size .given .1) (c .before .before .before .before .before .before .before .before .before .before .before .before .write-needed .ensures .0 e sizeNames afterSize)) (stops (c .enum-told2 .given .1) (c .before .before .before .before .write-run .ensures .0 e slotNames (λ _. slots "slot_transmission_on" 12 (c .before .before .before .before .before .before .before .before .size .given .0 .1 .1 .0) end)))
+returns-2 c =
+    let size = c .before .before .before .before .before .before .before .before .size in
+    let write-needed = c .before .before .before .before .before .before .before .before .before .before .before .before .write-needed in
+    λ e. then (done (size .given .1) (write-needed .ensures .0 e sizeNames afterSize))
+    (stops (c .enum-told2 .given .1)
+    (c .before .before .before .before .write-run .ensures .0 e slotNames
+    (λ _. slots "slot_transmission_on" 12 (size .given .0 .1 .1 .0) end)))
 
 write-slots-requires : tie.Need-write-slots-requires
 unfolding run signOf widthOf sizeOf
 write-slots-requires c κs =
     let m1 = moved-done (c .before .before .before .before .before .before .before .before .before .before .size .given .1) (c .before .before .before .before .before .before .before .before .before .before .before .before .before .before .write-needed .ensures .1 .1) in
-    let m2 = moved-done (c .before .before .current .given .1) (c .before .before .before .before .before .before .write-run .ensures .1 .1) in
-    (placed-on (c .before .before .before .before .before .before .before .before .before .before .before .before .before .before .before .before .before .before .before .pre .0) (go-on (done (c .before .before .before .before .before .before .before .before .before .before .size .given .1) (c .before .before .before .before .before .before .before .before .before .before .before .before .before .before .write-needed .ensures .0 0 sizeNames afterSize)) (done (c .before .before .current .given .1) (c .before .before .before .before .before .before .write-run .ensures .0 0 slotNames (λ _. slots "slot_transmission_on" 12 (c .before .before .before .before .before .before .before .before .before .before .size .given .0 .1 .1 .0) end)))), (omega (arith, m1 .0, m2 .0, c .before .before .before .before .before .before .before .before .before .before .before .before .before .before .before .before .before .before .before .pre .1), omega (arith, last-of (c .before .before .before .before .before .before .before .before .before .before .size .given .1) (c .before .before .before .before .before .before .before .before .before .before .before .before .before .before .write-needed .ensures .1 .0))))
+    let m2 = moved-done (c .before .before .current .given .1) (c .before .before .before .before .before .before .write-run .ensures .1 .1) in (
+      placed-on
+          (c .before .before .before .before .before .before .before .before .before .before .before .before .before .before .before .before .before .before .before .pre .0)
+          (go-on
+          (done (c .before .before .before .before .before .before .before .before .before .before .size .given .1)
+          (c .before .before .before .before .before .before .before .before .before .before .before .before .before .before .write-needed .ensures .0
+          0 sizeNames afterSize))
+          (done (c .before .before .current .given .1)
+          (c .before .before .before .before .before .before .write-run .ensures .0 0 slotNames
+          (λ _. slots "slot_transmission_on" 12
+          (c .before .before .before .before .before .before .before .before .before .before .size .given .0 .1 .1 .0)
+          end)))),
+      (
+        omega (
+          arith,
+          m1 .0,
+          m2 .0,
+          c .before .before .before .before .before .before .before .before .before .before .before .before .before .before .before .before .before .before .before .pre .1,
+        ),
+        omega (
+          arith,
+          last-of (c .before .before .before .before .before .before .before .before .before .before .size .given .1)
+              (c .before .before .before .before .before .before .before .before .before .before .before .before .before .before .write-needed .ensures .1 .0),
+        ),
+      ),
+    )
 
 same-length-3 : tie.Need-same-length-3
 same-length-3 c = search needs
 
 returns-3 : tie.Need-returns-3
 unfolding run signOf widthOf
-returns-3 c = λ e. then (go-on (done (c .before .before .before .before .before .before .before .before .before .before .before .before .before .size .given .1) (c .before .before .before .before .before .before .before .before .before .before .before .before .before .before .before .before .before .write-needed .ensures .0 e sizeNames afterSize)) (done (c .before .before .before .before .before .current .given .1) (c .before .before .before .before .before .before .before .before .before .write-run .ensures .0 e slotNames (λ _. slots "slot_transmission_on" 12 (c .before .before .before .before .before .before .before .before .before .before .before .before .before .size .given .0 .1 .1 .0) end)))) (c .before .before .write-slots .ensures e "slot_transmission_on" end)
+returns-3 c =
+    let size = c .before .before .before .before .before .before .before .before .before .before .before .before .before .size in
+    let write-needed = c .before .before .before .before .before .before .before .before .before .before .before .before .before .before .before .before .before .write-needed in
+    let write-run = c .before .before .before .before .before .before .before .before .before .write-run in
+    λ e. then
+    (go-on (done (size .given .1) (write-needed .ensures .0 e sizeNames afterSize))
+    (done (c .before .before .before .before .before .current .given .1)
+    (write-run .ensures .0 e slotNames (λ _. slots "slot_transmission_on" 12 (size .given .0 .1 .1 .0) end))))
+    (c .before .before .write-slots .ensures e "slot_transmission_on" end)
 
 pub write-bitmap-spec : {M : Type 1} → statement M
 write-bitmap-spec =

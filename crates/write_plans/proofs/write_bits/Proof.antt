@@ -42,7 +42,9 @@ add-value-at : tie.Need-add-value-at Inv-loop μ-loop
 add-value-at c = search needs
 
 value-at-requires : tie.Need-value-at-requires Inv-loop μ-loop
-value-at-requires c κs = (record { short = omega (arith, c .before .before .before .before .before .before .pre .0); fits = omega (arith, c .lesser .ensures .0, c .before .before .before .before .before .before .pre .1) }, omega (arith, c .lesser .ensures .1))
+value-at-requires c κs =
+    let pre = c .before .before .before .before .before .before .pre in
+    (record { short = omega (arith, pre .0); fits = omega (arith, c .lesser .ensures .0, pre .1) }, omega (arith, c .lesser .ensures .1))
 
 add-put : tie.Need-add-put Inv-loop μ-loop
 add-put c = search needs
@@ -63,7 +65,12 @@ loop-less : tie.Need-loop-less Inv-loop μ-loop
 loop-less c = omega arith
 
 loop-again : tie.Need-loop-again Inv-loop μ-loop
-loop-again c = more (c .before .before .before .before .before .before .before .loop .inv) (c .before .before .before .before .before .before .before .before .before .before .before .pre .1) (omega arith) (record { most = c .before .before .before .before .before .lesser .ensures .1; small = c .before .before .before .before .before .lesser .ensures .2; big = c .before .before .before .before .before .lesser .ensures .3 }) (c .before .before .before .before .value-at .ensures) (c .before .before .put .ensures) (search needs)
+loop-again c =
+    let lesser = c .before .before .before .before .before .lesser in
+    let l = c .before .before .before .before .before .before .before .loop in
+    let pre = c .before .before .before .before .before .before .before .before .before .before .before .pre in
+    more (l .inv) (pre .1) (omega arith) (record { most = lesser .ensures .1; small = lesser .ensures .2; big = lesser .ensures .3 })
+    (c .before .before .before .before .value-at .ensures) (c .before .before .put .ensures) (search needs)
 
 same-length : tie.Need-same-length Inv-loop μ-loop
 same-length c = c .before .loop .inv .long

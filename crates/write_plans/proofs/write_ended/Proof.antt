@@ -23,13 +23,20 @@ value-at-requires : tie.Need-value-at-requires
 value-at-requires c κs = search needs
 
 mul-stop : tie.Need-mul-stop
-mul-stop c = omega (arith, c .value-at .ensures, (valueAt-lt (c .before .before .before .before .args .body .now) (c .before .before .before .before .args .at) 12))
+mul-stop c =
+    let a = c .before .before .before .before .args in
+    omega (arith, c .value-at .ensures, (valueAt-lt (a .body .now) (a .at) 12))
 
 add-stop : tie.Need-add-stop
-add-stop c = omega (arith, c .value-at .ensures, (valueAt-lt (c .before .before .before .before .args .body .now) (c .before .before .before .before .args .at) 12), c .before .before .before .before .pre .0 .within, c .before .before .before .before .pre .0 .short)
+add-stop c =
+    let a = c .before .before .before .before .args in
+    let pre = c .before .before .before .before .pre in
+    omega (arith, c .value-at .ensures, (valueAt-lt (a .body .now) (a .at) 12), pre .0 .within, pre .0 .short)
 
 write-hopping-requires : tie.Need-write-hopping-requires
-write-hopping-requires c κs = (record { short = c .before .before .before .before .before .pre .0 .short; within = c .before .before .if1 .left; behind = omega (arith, c .before .before .before .before .before .pre .0 .behind) }, omega (arith, c .before .before .before .before .before .pre .1))
+write-hopping-requires c κs =
+    let pre = c .before .before .before .before .before .pre in
+    (record { short = pre .0 .short; within = c .before .before .if1 .left; behind = omega (arith, pre .0 .behind) }, omega (arith, pre .1))
 
 enum-known-hopping : tie.Need-enum-known-hopping
 enum-known-hopping c = search needs
@@ -41,7 +48,12 @@ same-length : tie.Need-same-length
 same-length c = search needs
 
 returns-2 : tie.Need-returns-2
-returns-2 c = plan-no _ _ _ _ (c .before .before .before .before .before .before .before .if1 .left) (ap (λ (v : ℕ). c .before .before .before .before .before .before .before .before .before .before .args .at + 12 + 8 * v) (c .before .before .before .before .before .before .value-at .ensures)) (c .enum-told .given .1) (c .before .before .before .before .write-hopping .ensures)
+returns-2 c =
+    let a = c .before .before .before .before .before .before .before .before .before .before .args in
+    let if1 = c .before .before .before .before .before .before .before .if1 in
+    let value-at = c .before .before .before .before .before .before .value-at in
+    plan-no _ _ _ _ (if1 .left) (ap (λ (v : ℕ). a .at + 12 + 8 * v) (value-at .ensures)) (c .enum-told .given .1)
+    (c .before .before .before .before .write-hopping .ensures)
 
 sub-t19 : tie.Need-sub-t19
 sub-t19 c = search needs
@@ -50,7 +62,13 @@ same-length-2 : tie.Need-same-length-2
 same-length-2 c = search needs
 
 returns-3 : tie.Need-returns-3
-returns-3 c = record { to = plan-over _ _ _ _ (c .before .before .before .before .before .before .before .before .before .if1 .left) (ap (λ (v : ℕ). c .before .before .before .before .before .before .before .before .before .before .before .before .args .at + 12 + 8 * v) (c .before .before .before .before .before .before .before .before .value-at .ensures)) (done (c .before .before .hopping .given .1) (c .before .before .before .before .before .before .write-hopping .ensures)) (c .if2 .taken) }
+returns-3 c =
+    let a = c .before .before .before .before .before .before .before .before .before .before .before .before .args in
+    let if1 = c .before .before .before .before .before .before .before .before .before .if1 in
+    let value-at = c .before .before .before .before .before .before .before .before .value-at in
+    let write-hopping = c .before .before .before .before .before .before .write-hopping in
+    record
+    { to = plan-over _ _ _ _ (if1 .left) (ap (λ (v : ℕ). a .at + 12 + 8 * v) (value-at .ensures)) (done (c .before .before .hopping .given .1) (write-hopping .ensures)) (c .if2 .taken) }
 
 lesser-requires : tie.Need-lesser-requires
 lesser-requires c κs = search needs
@@ -59,7 +77,13 @@ same-length-3 : tie.Need-same-length-3
 same-length-3 c = search needs
 
 returns-4 : tie.Need-returns-4
-returns-4 c = record { to = plan-done _ _ _ _ (c .before .before .before .before .before .before .before .before .before .before .if1 .left) (ap (λ (v : ℕ). c .before .before .before .before .before .before .before .before .before .before .before .before .before .args .at + 12 + 8 * v) (c .before .before .before .before .before .before .before .before .before .value-at .ensures)) (done (c .before .before .before .hopping .given .1) (c .before .before .before .before .before .before .before .write-hopping .ensures)) (c .before .if2 .left) (c .lesser .ensures .1) (c .lesser .ensures .2) (c .lesser .ensures .3) }
+returns-4 c =
+    let a = c .before .before .before .before .before .before .before .before .before .before .before .before .before .args in
+    let if1 = c .before .before .before .before .before .before .before .before .before .before .if1 in
+    let value-at = c .before .before .before .before .before .before .before .before .before .value-at in
+    let write-hopping = c .before .before .before .before .before .before .before .write-hopping in
+    record
+    { to = plan-done _ _ _ _ (if1 .left) (ap (λ (v : ℕ). a .at + 12 + 8 * v) (value-at .ensures)) (done (c .before .before .before .hopping .given .1) (write-hopping .ensures)) (c .before .if2 .left) (c .lesser .ensures .1) (c .lesser .ensures .2) (c .lesser .ensures .3) }
 
 pub write-ended-spec : {M : Type 1} → statement M
 write-ended-spec =

@@ -28,13 +28,19 @@ same-length c = search needs
 
 returns : tie.Need-returns
 unfolding run signOf widthOf
-returns c = stops (c .enum-told .given .1) (c .before .before .before .before .write-run .ensures .0 (c .before .before .before .before .before .before .before .before .before .args .stop) modeNames afterMode)
+returns c =
+    let a = c .before .before .before .before .before .before .before .before .before .args in
+    stops (c .enum-told .given .1) (c .before .before .before .before .write-run .ensures .0 (a .stop) modeNames afterMode)
 
 slice-aggregate-write-run-2 : tie.Need-slice-aggregate-write-run-2
 slice-aggregate-write-run-2 c = search needs
 
 write-run-requires-2 : tie.Need-write-run-requires-2
-write-run-requires-2 c κs = (placed-on (c .before .before .before .before .before .before .before .before .before .before .before .before .pre .0) (done (c .before .before .before .head .given .1) (c .before .before .before .before .before .before .before .write-run .ensures .0 (c .before .before .before .before .before .before .before .before .before .before .before .before .args .stop) modeNames afterMode)), tt)
+write-run-requires-2 c κs =
+    let a = c .before .before .before .before .before .before .before .before .before .before .before .before .args in
+    let pre = c .before .before .before .before .before .before .before .before .before .before .before .before .pre in
+    let write-run = c .before .before .before .before .before .before .before .write-run in
+    (placed-on (pre .0) (done (c .before .before .before .head .given .1) (write-run .ensures .0 (a .stop) modeNames afterMode)), tt)
 
 enum-known-clocks : tie.Need-enum-known-clocks
 enum-known-clocks c = search needs
@@ -47,18 +53,52 @@ same-length-2 c = search needs
 
 returns-2 : tie.Need-returns-2
 unfolding run signOf widthOf
-returns-2 c = then (done (c .before .before .before .before .before .before .before .before .head .given .1) (c .before .before .before .before .before .before .before .before .before .before .before .before .write-run .ensures .0 (c .before .before .before .before .before .before .before .before .before .before .before .before .before .before .before .before .before .args .stop) modeNames afterMode)) (stops (c .enum-told2 .given .1) (c .before .before .before .before .write-run2 .ensures .0 (c .before .before .before .before .before .before .before .before .before .before .before .before .before .before .before .before .before .args .stop) timeNames (λ _. mode (c .before .before .before .before .before .before .before .before .head .given .0 .1 .1 .0))))
+returns-2 c =
+    let a = c .before .before .before .before .before .before .before .before .before .before .before .before .before .before .before .before .before .args in
+    let head = c .before .before .before .before .before .before .before .before .head in
+    let write-run = c .before .before .before .before .before .before .before .before .before .before .before .before .write-run in
+    then (done (head .given .1) (write-run .ensures .0 (a .stop) modeNames afterMode))
+    (stops (c .enum-told2 .given .1)
+    (c .before .before .before .before .write-run2 .ensures .0 (a .stop) timeNames (λ _. mode (head .given .0 .1 .1 .0))))
 
 write-mode-requires : tie.Need-write-mode-requires
 unfolding run signOf widthOf sizeOf
-write-mode-requires c κs = (placed-on (c .before .before .before .before .before .before .before .before .before .before .before .before .before .before .before .before .before .before .before .pre .0) (go-on (done (c .before .before .before .before .before .before .before .before .before .before .head .given .1) (c .before .before .before .before .before .before .before .before .before .before .before .before .before .before .write-run .ensures .0 (c .before .before .before .before .before .before .before .before .before .before .before .before .before .before .before .before .before .before .before .args .stop) modeNames afterMode)) (done (c .before .before .clocks .given .1) (c .before .before .before .before .before .before .write-run2 .ensures .0 (c .before .before .before .before .before .before .before .before .before .before .before .before .before .before .before .before .before .before .before .args .stop) timeNames (λ _. mode (c .before .before .before .before .before .before .before .before .before .before .head .given .0 .1 .1 .0))))), (omega (arith, (moved-done (c .before .before .before .before .before .before .before .before .before .before .head .given .1) (c .before .before .before .before .before .before .before .before .before .before .before .before .before .before .write-run .ensures .1 .1)) .0, (moved-done (c .before .before .clocks .given .1) (c .before .before .before .before .before .before .write-run2 .ensures .1 .1)) .0, c .before .before .before .before .before .before .before .before .before .before .before .before .before .before .before .before .before .before .before .pre .1 .0), c .before .before .before .before .before .before .before .before .before .before .before .before .before .before .before .before .before .before .before .pre .1 .1))
+write-mode-requires c κs =
+    let a = c .before .before .before .before .before .before .before .before .before .before .before .before .before .before .before .before .before .before .before .args in
+    let head = c .before .before .before .before .before .before .before .before .before .before .head in
+    let pre = c .before .before .before .before .before .before .before .before .before .before .before .before .before .before .before .before .before .before .before .pre in
+    let write-run = c .before .before .before .before .before .before .before .before .before .before .before .before .before .before .write-run in
+    let write-run2 = c .before .before .before .before .before .before .write-run2 in (
+      placed-on (pre .0)
+          (go-on (done (head .given .1) (write-run .ensures .0 (a .stop) modeNames afterMode))
+          (done (c .before .before .clocks .given .1) (write-run2 .ensures .0 (a .stop) timeNames (λ _. mode (head .given .0 .1 .1 .0))))),
+      (
+        omega (
+          arith,
+          (moved-done (head .given .1) (write-run .ensures .1 .1)) .0,
+          (moved-done (c .before .before .clocks .given .1) (write-run2 .ensures .1 .1)) .0,
+          pre .1 .0,
+        ),
+        pre .1 .1,
+      ),
+    )
 
 same-length-3 : tie.Need-same-length-3
 same-length-3 c = search needs
 
 returns-3 : tie.Need-returns-3
 unfolding run signOf widthOf sizeOf
-returns-3 c = then-ragged (go-on (done (c .before .before .before .before .before .before .before .before .before .before .before .before .before .head .given .1) (c .before .before .before .before .before .before .before .before .before .before .before .before .before .before .before .before .before .write-run .ensures .0 (c .before .before .before .before .before .before .before .before .before .before .before .before .before .before .before .before .before .before .before .before .before .before .args .stop) modeNames afterMode)) (done (c .before .before .before .before .before .clocks .given .1) (c .before .before .before .before .before .before .before .before .before .write-run2 .ensures .0 (c .before .before .before .before .before .before .before .before .before .before .before .before .before .before .before .before .before .before .before .before .before .before .args .stop) timeNames (λ _. mode (c .before .before .before .before .before .before .before .before .before .before .before .before .before .head .given .0 .1 .1 .0))))) (omega (arith, (moved-done (c .before .before .before .before .before .before .before .before .before .before .before .before .before .head .given .1) (c .before .before .before .before .before .before .before .before .before .before .before .before .before .before .before .before .before .write-run .ensures .1 .1)), (moved-done (c .before .before .before .before .before .clocks .given .1) (c .before .before .before .before .before .before .before .before .before .write-run2 .ensures .1 .1)))) (c .before .before .write-mode .ensures)
+returns-3 c =
+    let a = c .before .before .before .before .before .before .before .before .before .before .before .before .before .before .before .before .before .before .before .before .before .before .args in
+    let clocks = c .before .before .before .before .before .clocks in
+    let head = c .before .before .before .before .before .before .before .before .before .before .before .before .before .head in
+    let write-run = c .before .before .before .before .before .before .before .before .before .before .before .before .before .before .before .before .before .write-run in
+    let write-run2 = c .before .before .before .before .before .before .before .before .before .write-run2 in
+    then-ragged
+    (go-on (done (head .given .1) (write-run .ensures .0 (a .stop) modeNames afterMode))
+    (done (clocks .given .1) (write-run2 .ensures .0 (a .stop) timeNames (λ _. mode (head .given .0 .1 .1 .0)))))
+    (omega (arith, (moved-done (head .given .1) (write-run .ensures .1 .1)), (moved-done (clocks .given .1) (write-run2 .ensures .1 .1))))
+    (c .before .before .write-mode .ensures)
 
 pub write-hopping-spec : {M : Type 1} → statement M
 write-hopping-spec =

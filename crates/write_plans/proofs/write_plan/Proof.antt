@@ -32,14 +32,23 @@ returns c = stops (c .enum-told .given .1) (c .before .before .before .before .w
 
 write-ended-requires : tie.Need-write-ended-requires
 unfolding run signOf widthOf sizeOf
-write-ended-requires c κs = (placed-on (c .before .before .before .before .before .before .before .before .before .before .before .pre .0) (done (c .before .before .head .given .1) (c .before .before .before .before .before .before .write-run .ensures .0 0 planNames (λ _. plan "plan_length" hopping))), omega (arith, (moved-done (c .before .before .head .given .1) (c .before .before .before .before .before .before .write-run .ensures .1 .1)) .0, c .before .before .before .before .before .before .before .before .before .before .before .pre .1))
+write-ended-requires c κs =
+    let pre = c .before .before .before .before .before .before .before .before .before .before .before .pre in
+    let write-run = c .before .before .before .before .before .before .write-run in (
+      placed-on (pre .0) (done (c .before .before .head .given .1) (write-run .ensures .0 0 planNames (λ _. plan "plan_length" hopping))),
+      omega
+          (arith, (moved-done (c .before .before .head .given .1) (write-run .ensures .1 .1)) .0, pre .1),
+    )
 
 same-length-2 : tie.Need-same-length-2
 same-length-2 c = search needs
 
 returns-2 : tie.Need-returns-2
 unfolding beamhopping run signOf widthOf
-returns-2 c = then (done (c .before .before .before .before .before .head .given .1) (c .before .before .before .before .before .before .before .before .before .write-run .ensures .0 0 planNames (λ _. plan "plan_length" hopping))) (c .before .before .write-ended .ensures)
+returns-2 c =
+    let write-run = c .before .before .before .before .before .before .before .before .before .write-run in
+    then (done (c .before .before .before .before .before .head .given .1) (write-run .ensures .0 0 planNames (λ _. plan "plan_length" hopping)))
+    (c .before .before .write-ended .ensures)
 
 pub write-plan-spec : {M : Type 1} → statement M
 write-plan-spec =

@@ -21,10 +21,32 @@ add-write-bits : tie.Need-add-write-bits
 add-write-bits c = search needs
 
 write-bits-requires : tie.Need-write-bits-requires
-write-bits-requires c κs = omega (arith, c .before .before .before .before .before .before .before .before .pre .0 .short, c .before .before .before .before .before .before .before .before .pre .0 .within, c .before .before .before .before .before .before .before .before .pre .0 .behind, (raw-fits (c .before .before .before .before .before .before .before .before .args .at) (c .before .before .before .before .before .before .before .before .args .stop) (8 * length (c .before .before .before .before .before .before .before .before .args .body .now)) (c .before .before .before .before .before .raw-bits .result) (c .before .before .before .before .before .before .before .before .pre .0 .within) (c .before .before .before .before .before .before .before .before .pre .1 .0) (c .before .before .before .before .before .before .before .before .pre .1 .1) (c .before .before .before .before .before .raw-bits .ensures)) .fits)
+write-bits-requires c κs =
+    let a = c .before .before .before .before .before .before .before .before .args in
+    let pre = c .before .before .before .before .before .before .before .before .pre in
+    let raw-bits = c .before .before .before .before .before .raw-bits in
+    omega (
+      arith,
+      pre .0 .short,
+      pre .0 .within,
+      pre .0 .behind,
+      (raw-fits (a .at) (a .stop) (8 * length (a .body .now)) (raw-bits .result) (pre .0 .within) (pre .1 .0) (pre .1 .1)
+          (raw-bits .ensures)) .fits,
+    )
 
 add-t7 : tie.Need-add-t7
-add-t7 c = omega (arith, c .before .before .before .before .before .before .before .before .before .before .before .pre .0 .short, c .before .before .before .before .before .before .before .before .before .before .before .pre .0 .within, c .before .before .before .before .before .before .before .before .before .before .before .pre .0 .behind, (raw-fits (c .before .before .before .before .before .before .before .before .before .before .before .args .at) (c .before .before .before .before .before .before .before .before .before .before .before .args .stop) (8 * length (c .before .before .before .before .before .before .before .before .before .before .before .args .body .now)) (c .before .before .before .before .before .before .before .before .raw-bits .result) (c .before .before .before .before .before .before .before .before .before .before .before .pre .0 .within) (c .before .before .before .before .before .before .before .before .before .before .before .pre .1 .0) (c .before .before .before .before .before .before .before .before .before .before .before .pre .1 .1) (c .before .before .before .before .before .before .before .before .raw-bits .ensures)) .fits)
+add-t7 c =
+    let a = c .before .before .before .before .before .before .before .before .before .before .before .args in
+    let pre = c .before .before .before .before .before .before .before .before .before .before .before .pre in
+    let raw-bits = c .before .before .before .before .before .before .before .before .raw-bits in
+    omega (
+      arith,
+      pre .0 .short,
+      pre .0 .within,
+      pre .0 .behind,
+      (raw-fits (a .at) (a .stop) (8 * length (a .body .now)) (raw-bits .result) (pre .0 .within) (pre .1 .0) (pre .1 .1)
+          (raw-bits .ensures)) .fits,
+    )
 
 add-t8 : tie.Need-add-t8
 add-t8 c = search needs
@@ -36,7 +58,13 @@ same-length : tie.Need-same-length
 same-length c = search needs
 
 returns : tie.Need-returns
-returns c = λ nm. record { to = raw-done nm (c .before .before .before .before .before .before .before .before .before .before .before .pre .0 .within) (c .before .before .before .before .before .before .before .before .raw-bits .ensures) (raw-fits (c .before .before .before .before .before .before .before .before .before .before .before .args .at) (c .before .before .before .before .before .before .before .before .before .before .before .args .stop) (8 * length (c .before .before .before .before .before .before .before .before .before .before .before .args .body .now)) (c .before .before .before .before .before .before .before .before .raw-bits .result) (c .before .before .before .before .before .before .before .before .before .before .before .pre .0 .within) (c .before .before .before .before .before .before .before .before .before .before .before .pre .1 .0) (c .before .before .before .before .before .before .before .before .before .before .before .pre .1 .1) (c .before .before .before .before .before .before .before .before .raw-bits .ensures)) (c .before .before .before .before .before .before .put .ensures) (search needs) (c .before .before .write-bits .ensures) (search needs) }
+returns c =
+    let a = c .before .before .before .before .before .before .before .before .before .before .before .args in
+    let pre = c .before .before .before .before .before .before .before .before .before .before .before .pre in
+    let put = c .before .before .before .before .before .before .put in
+    let raw-bits = c .before .before .before .before .before .before .before .before .raw-bits in
+    λ nm. record
+    { to = raw-done nm (pre .0 .within) (raw-bits .ensures) (raw-fits (a .at) (a .stop) (8 * length (a .body .now)) (raw-bits .result) (pre .0 .within) (pre .1 .0) (pre .1 .1) (raw-bits .ensures)) (put .ensures) (search needs) (c .before .before .write-bits .ensures) (search needs) }
 
 pub write-raw-spec : {M : Type 1} → statement M
 write-raw-spec =

@@ -44,35 +44,61 @@ same-length c = search needs
 
 returns-2 : tie.Need-returns-2
 unfolding association run signOf widthOf
-returns-2 c = (starts (need-yes _ _ _ 2 1 _ (omega arith))) (stops (c .enum-told .given .1) (c .before .before .before .before .write-needed .ensures .0 0 names.type rest))
+returns-2 c =
+    (starts (need-yes _ _ _ 2 1 _ (omega arith)))
+    (stops (c .enum-told .given .1) (c .before .before .before .before .write-needed .ensures .0 0 names.type rest))
 
 slice-aggregate-write-run : tie.Need-slice-aggregate-write-run
 slice-aggregate-write-run c = search needs
 
 write-run-requires : tie.Need-write-run-requires
 unfolding run signOf widthOf
-write-run-requires c κs = (placed-on (c .before .before .before .before .before .before .before .before .before .before .before .before .before .before .pre) (done (c .before .before .before .before .kind .given .1) ((starts (need-yes _ _ _ 2 1 _ (omega arith))) (c .before .before .before .before .before .before .before .before .write-needed .ensures .0 0 names.type rest))), tt)
+write-run-requires c κs =
+    let pre = c .before .before .before .before .before .before .before .before .before .before .before .before .before .before .pre in
+    let write-needed = c .before .before .before .before .before .before .before .before .write-needed in (
+      placed-on pre
+          (done (c .before .before .before .before .kind .given .1)
+          ((starts (need-yes _ _ _ 2 1 _ (omega arith))) (write-needed .ensures .0 0 names.type rest))),
+      tt,
+    )
 
 same-length-2 : tie.Need-same-length-2
 same-length-2 c = search needs
 
 returns-3 : tie.Need-returns-3
 unfolding association run signOf widthOf
-returns-3 c = then (done (c .before .before .before .before .before .before .before .kind .given .1) ((starts (need-yes _ _ _ 2 1 _ (omega arith))) (c .before .before .before .before .before .before .before .before .before .before .before .write-needed .ensures .0 0 names.type rest))) (starts (when-yes _ _ _ _ _ _ (eq-eqb _ _ (c .before .before .before .before .before .if2 .taken))) (c .before .before .write-run .ensures .0 0 names.leap-time (λ _. end)))
+returns-3 c =
+    let kind = c .before .before .before .before .before .before .before .kind in
+    let write-needed = c .before .before .before .before .before .before .before .before .before .before .before .write-needed in
+    then (done (kind .given .1) ((starts (need-yes _ _ _ 2 1 _ (omega arith))) (write-needed .ensures .0 0 names.type rest)))
+    (starts (when-yes _ _ _ _ _ _ (eq-eqb _ _ (c .before .before .before .before .before .if2 .taken)))
+    (c .before .before .write-run .ensures .0 0 names.leap-time (λ _. end)))
 
 slice-aggregate-write-run-2 : tie.Need-slice-aggregate-write-run-2
 slice-aggregate-write-run-2 c = search needs
 
 write-run-requires-2 : tie.Need-write-run-requires-2
 unfolding run signOf widthOf
-write-run-requires-2 c κs = (placed-on (c .before .before .before .before .before .before .before .before .before .before .before .before .before .before .pre) (done (c .before .before .before .before .kind .given .1) ((starts (need-yes _ _ _ 2 1 _ (omega arith))) (c .before .before .before .before .before .before .before .before .write-needed .ensures .0 0 names.type rest))), tt)
+write-run-requires-2 c κs =
+    let pre = c .before .before .before .before .before .before .before .before .before .before .before .before .before .before .pre in
+    let write-needed = c .before .before .before .before .before .before .before .before .write-needed in (
+      placed-on pre
+          (done (c .before .before .before .before .kind .given .1)
+          ((starts (need-yes _ _ _ 2 1 _ (omega arith))) (write-needed .ensures .0 0 names.type rest))),
+      tt,
+    )
 
 same-length-3 : tie.Need-same-length-3
 same-length-3 c = search needs
 
 returns-4 : tie.Need-returns-4
 unfolding association run signOf widthOf
-returns-4 c = then (done (c .before .before .before .before .before .before .before .kind .given .1) ((starts (need-yes _ _ _ 2 1 _ (omega arith))) (c .before .before .before .before .before .before .before .before .before .before .before .write-needed .ensures .0 0 names.type rest))) (starts (when-no _ _ _ _ _ _ (ne-eqb _ _ (c .before .before .before .before .before .if2 .left))) (c .before .before .write-run2 .ensures .0 0 names.no-leap-time (λ _. end)))
+returns-4 c =
+    let kind = c .before .before .before .before .before .before .before .kind in
+    let write-needed = c .before .before .before .before .before .before .before .before .before .before .before .write-needed in
+    then (done (kind .given .1) ((starts (need-yes _ _ _ 2 1 _ (omega arith))) (write-needed .ensures .0 0 names.type rest)))
+    (starts (when-no _ _ _ _ _ _ (ne-eqb _ _ (c .before .before .before .before .before .if2 .left)))
+    (c .before .before .write-run2 .ensures .0 0 names.no-leap-time (λ _. end)))
 
 pub write-association-spec : {M : Type 1} → statement M
 write-association-spec =

@@ -41,7 +41,10 @@ slice-aggregate-write-run : tie.Need-slice-aggregate-write-run
 slice-aggregate-write-run c = search needs
 
 write-run-requires : tie.Need-write-run-requires
-write-run-requires c κs = (placed-on (c .before .before .before .before .before .before .before .before .before .before .before .before .pre .0) (done (c .before .before .before .ids .given .1) (c .before .before .before .before .before .before .before .write-counted .ensures 0 names.delivery new)), tt)
+write-run-requires c κs =
+    let pre = c .before .before .before .before .before .before .before .before .before .before .before .before .pre in
+    let write-counted = c .before .before .before .before .before .before .before .write-counted in
+    (placed-on (pre .0) (done (c .before .before .before .ids .given .1) (write-counted .ensures 0 names.delivery new)), tt)
 
 enum-known-new : tie.Need-enum-known-new
 enum-known-new c = search needs
@@ -54,14 +57,28 @@ same-length-2 c = search needs
 
 returns-2 : tie.Need-returns-2
 unfolding run signOf widthOf
-returns-2 c = then (done (c .before .before .before .before .before .before .before .before .ids .given .1) (c .before .before .before .before .before .before .before .before .before .before .before .before .write-counted .ensures 0 names.delivery new)) (stops (c .enum-told2 .given .1) (c .before .before .before .before .write-run .ensures .0 0 names.new-count news))
+returns-2 c =
+    let ids = c .before .before .before .before .before .before .before .before .ids in
+    let write-counted = c .before .before .before .before .before .before .before .before .before .before .before .before .write-counted in
+    then (done (ids .given .1) (write-counted .ensures 0 names.delivery new))
+    (stops (c .enum-told2 .given .1) (c .before .before .before .before .write-run .ensures .0 0 names.new-count news))
 
 slice-aggregate-write-counted-2 : tie.Need-slice-aggregate-write-counted-2
 slice-aggregate-write-counted-2 c = search needs
 
 write-counted-requires-2 : tie.Need-write-counted-requires-2
 unfolding run signOf widthOf
-write-counted-requires-2 c κs = (placed-on (c .before .before .before .before .before .before .before .before .before .before .before .before .before .before .before .before .before .before .before .before .pre .0) (go-on (done (c .before .before .before .before .before .before .before .before .before .before .before .ids .given .1) (c .before .before .before .before .before .before .before .before .before .before .before .before .before .before .before .write-counted .ensures 0 names.delivery new)) (done (c .before .before .before .new .given .1) (c .before .before .before .before .before .before .before .write-run .ensures .0 0 names.new-count news))), (tt, omega (arith, last-of (c .before .before .before .new .given .1) (c .before .before .before .before .before .before .before .write-run .ensures .1 .0))))
+write-counted-requires-2 c κs =
+    let ids = c .before .before .before .before .before .before .before .before .before .before .before .ids in
+    let new′ = c .before .before .before .new in
+    let pre = c .before .before .before .before .before .before .before .before .before .before .before .before .before .before .before .before .before .before .before .before .pre in
+    let write-counted = c .before .before .before .before .before .before .before .before .before .before .before .before .before .before .before .write-counted in
+    let write-run = c .before .before .before .before .before .before .before .write-run in (
+      placed-on (pre .0)
+          (go-on (done (ids .given .1) (write-counted .ensures 0 names.delivery new))
+          (done (new′ .given .1) (write-run .ensures .0 0 names.new-count news))),
+      (tt, omega (arith, last-of (new′ .given .1) (write-run .ensures .1 .0))),
+    )
 
 enum-known-systems : tie.Need-enum-known-systems
 enum-known-systems c = search needs
@@ -74,14 +91,35 @@ same-length-3 c = search needs
 
 returns-3 : tie.Need-returns-3
 unfolding run signOf widthOf
-returns-3 c = then (go-on (done (c .before .before .before .before .before .before .before .before .before .before .before .before .before .before .before .before .ids .given .1) (c .before .before .before .before .before .before .before .before .before .before .before .before .before .before .before .before .before .before .before .before .write-counted .ensures 0 names.delivery new)) (done (c .before .before .before .before .before .before .before .before .new .given .1) (c .before .before .before .before .before .before .before .before .before .before .before .before .write-run .ensures .0 0 names.new-count news))) (stops (c .enum-told3 .given .1) (c .before .before .before .before .write-counted2 .ensures 0 names.new-system obsolescent))
+returns-3 c =
+    let ids = c .before .before .before .before .before .before .before .before .before .before .before .before .before .before .before .before .ids in
+    let new′ = c .before .before .before .before .before .before .before .before .new in
+    let write-counted = c .before .before .before .before .before .before .before .before .before .before .before .before .before .before .before .before .before .before .before .before .write-counted in
+    let write-run = c .before .before .before .before .before .before .before .before .before .before .before .before .write-run in
+    then
+    (go-on (done (ids .given .1) (write-counted .ensures 0 names.delivery new))
+    (done (new′ .given .1) (write-run .ensures .0 0 names.new-count news)))
+    (stops (c .enum-told3 .given .1) (c .before .before .before .before .write-counted2 .ensures 0 names.new-system obsolescent))
 
 slice-aggregate-write-run-2 : tie.Need-slice-aggregate-write-run-2
 slice-aggregate-write-run-2 c = search needs
 
 write-run-requires-2 : tie.Need-write-run-requires-2
 unfolding run signOf widthOf
-write-run-requires-2 c κs = (placed-on (c .before .before .before .before .before .before .before .before .before .before .before .before .before .before .before .before .before .before .before .before .before .before .before .before .before .before .before .before .pre .0) (go-on (go-on (done (c .before .before .before .before .before .before .before .before .before .before .before .before .before .before .before .before .before .before .before .ids .given .1) (c .before .before .before .before .before .before .before .before .before .before .before .before .before .before .before .before .before .before .before .before .before .before .before .write-counted .ensures 0 names.delivery new)) (done (c .before .before .before .before .before .before .before .before .before .before .before .new .given .1) (c .before .before .before .before .before .before .before .before .before .before .before .before .before .before .before .write-run .ensures .0 0 names.new-count news))) (done (c .before .before .before .systems .given .1) (c .before .before .before .before .before .before .before .write-counted2 .ensures 0 names.new-system obsolescent))), tt)
+write-run-requires-2 c κs =
+    let ids = c .before .before .before .before .before .before .before .before .before .before .before .before .before .before .before .before .before .before .before .ids in
+    let new′ = c .before .before .before .before .before .before .before .before .before .before .before .new in
+    let pre = c .before .before .before .before .before .before .before .before .before .before .before .before .before .before .before .before .before .before .before .before .before .before .before .before .before .before .before .before .pre in
+    let write-counted = c .before .before .before .before .before .before .before .before .before .before .before .before .before .before .before .before .before .before .before .before .before .before .before .write-counted in
+    let write-counted2 = c .before .before .before .before .before .before .before .write-counted2 in
+    let write-run = c .before .before .before .before .before .before .before .before .before .before .before .before .before .before .before .write-run in (
+      placed-on (pre .0)
+          (go-on
+          (go-on (done (ids .given .1) (write-counted .ensures 0 names.delivery new))
+          (done (new′ .given .1) (write-run .ensures .0 0 names.new-count news)))
+          (done (c .before .before .before .systems .given .1) (write-counted2 .ensures 0 names.new-system obsolescent))),
+      tt,
+    )
 
 enum-known-old : tie.Need-enum-known-old
 enum-known-old c = search needs
@@ -91,26 +129,102 @@ enum-told-4 c = search needs
 
 same-length-4 : tie.Need-same-length-4
 unfolding run signOf widthOf
-same-length-4 c = omega (arith, (go-on (go-on (done (c .before .before .before .before .before .before .before .before .before .before .before .before .before .before .before .before .before .before .before .before .before .before .before .before .ids .given .1) (c .before .before .before .before .before .before .before .before .before .before .before .before .before .before .before .before .before .before .before .before .before .before .before .before .before .before .before .before .write-counted .ensures 0 names.delivery new)) (done (c .before .before .before .before .before .before .before .before .before .before .before .before .before .before .before .before .new .given .1) (c .before .before .before .before .before .before .before .before .before .before .before .before .before .before .before .before .before .before .before .before .write-run .ensures .0 0 names.new-count news))) (done (c .before .before .before .before .before .before .before .before .systems .given .1) (c .before .before .before .before .before .before .before .before .before .before .before .before .write-counted2 .ensures 0 names.new-system obsolescent))) .long)
+same-length-4 c =
+    let ids = c .before .before .before .before .before .before .before .before .before .before .before .before .before .before .before .before .before .before .before .before .before .before .before .before .ids in
+    let new′ = c .before .before .before .before .before .before .before .before .before .before .before .before .before .before .before .before .new in
+    let systems = c .before .before .before .before .before .before .before .before .systems in
+    let write-counted = c .before .before .before .before .before .before .before .before .before .before .before .before .before .before .before .before .before .before .before .before .before .before .before .before .before .before .before .before .write-counted in
+    let write-counted2 = c .before .before .before .before .before .before .before .before .before .before .before .before .write-counted2 in
+    let write-run = c .before .before .before .before .before .before .before .before .before .before .before .before .before .before .before .before .before .before .before .before .write-run in
+    omega (
+      arith,
+      (go-on
+          (go-on (done (ids .given .1) (write-counted .ensures 0 names.delivery new))
+          (done (new′ .given .1) (write-run .ensures .0 0 names.new-count news)))
+          (done (systems .given .1) (write-counted2 .ensures 0 names.new-system obsolescent))) .long,
+    )
 
 returns-4 : tie.Need-returns-4
 unfolding run signOf widthOf
-returns-4 c = then (go-on (go-on (done (c .before .before .before .before .before .before .before .before .before .before .before .before .before .before .before .before .before .before .before .before .before .before .before .before .ids .given .1) (c .before .before .before .before .before .before .before .before .before .before .before .before .before .before .before .before .before .before .before .before .before .before .before .before .before .before .before .before .write-counted .ensures 0 names.delivery new)) (done (c .before .before .before .before .before .before .before .before .before .before .before .before .before .before .before .before .new .given .1) (c .before .before .before .before .before .before .before .before .before .before .before .before .before .before .before .before .before .before .before .before .write-run .ensures .0 0 names.new-count news))) (done (c .before .before .before .before .before .before .before .before .systems .given .1) (c .before .before .before .before .before .before .before .before .before .before .before .before .write-counted2 .ensures 0 names.new-system obsolescent))) (stops (c .enum-told4 .given .1) (c .before .before .before .before .write-run2 .ensures .0 0 names.old-count olds))
+returns-4 c =
+    let ids = c .before .before .before .before .before .before .before .before .before .before .before .before .before .before .before .before .before .before .before .before .before .before .before .before .ids in
+    let new′ = c .before .before .before .before .before .before .before .before .before .before .before .before .before .before .before .before .new in
+    let systems = c .before .before .before .before .before .before .before .before .systems in
+    let write-counted = c .before .before .before .before .before .before .before .before .before .before .before .before .before .before .before .before .before .before .before .before .before .before .before .before .before .before .before .before .write-counted in
+    let write-counted2 = c .before .before .before .before .before .before .before .before .before .before .before .before .write-counted2 in
+    let write-run = c .before .before .before .before .before .before .before .before .before .before .before .before .before .before .before .before .before .before .before .before .write-run in
+    then
+    (go-on
+    (go-on (done (ids .given .1) (write-counted .ensures 0 names.delivery new))
+    (done (new′ .given .1) (write-run .ensures .0 0 names.new-count news)))
+    (done (systems .given .1) (write-counted2 .ensures 0 names.new-system obsolescent)))
+    (stops (c .enum-told4 .given .1) (c .before .before .before .before .write-run2 .ensures .0 0 names.old-count olds))
 
 slice-aggregate-write-counted-3 : tie.Need-slice-aggregate-write-counted-3
 slice-aggregate-write-counted-3 c = search needs
 
 write-counted-requires-3 : tie.Need-write-counted-requires-3
 unfolding run signOf widthOf
-write-counted-requires-3 c κs = (placed-on (c .before .before .before .before .before .before .before .before .before .before .before .before .before .before .before .before .before .before .before .before .before .before .before .before .before .before .before .before .before .before .before .before .before .before .before .before .pre .0) (go-on (go-on (go-on (done (c .before .before .before .before .before .before .before .before .before .before .before .before .before .before .before .before .before .before .before .before .before .before .before .before .before .before .before .ids .given .1) (c .before .before .before .before .before .before .before .before .before .before .before .before .before .before .before .before .before .before .before .before .before .before .before .before .before .before .before .before .before .before .before .write-counted .ensures 0 names.delivery new)) (done (c .before .before .before .before .before .before .before .before .before .before .before .before .before .before .before .before .before .before .before .new .given .1) (c .before .before .before .before .before .before .before .before .before .before .before .before .before .before .before .before .before .before .before .before .before .before .before .write-run .ensures .0 0 names.new-count news))) (done (c .before .before .before .before .before .before .before .before .before .before .before .systems .given .1) (c .before .before .before .before .before .before .before .before .before .before .before .before .before .before .before .write-counted2 .ensures 0 names.new-system obsolescent))) (done (c .before .before .before .old .given .1) (c .before .before .before .before .before .before .before .write-run2 .ensures .0 0 names.old-count olds))), (tt, omega (arith, last-of (c .before .before .before .old .given .1) (c .before .before .before .before .before .before .before .write-run2 .ensures .1 .0))))
+write-counted-requires-3 c κs =
+    let ids = c .before .before .before .before .before .before .before .before .before .before .before .before .before .before .before .before .before .before .before .before .before .before .before .before .before .before .before .ids in
+    let new′ = c .before .before .before .before .before .before .before .before .before .before .before .before .before .before .before .before .before .before .before .new in
+    let old = c .before .before .before .old in
+    let pre = c .before .before .before .before .before .before .before .before .before .before .before .before .before .before .before .before .before .before .before .before .before .before .before .before .before .before .before .before .before .before .before .before .before .before .before .before .pre in
+    let systems = c .before .before .before .before .before .before .before .before .before .before .before .systems in
+    let write-counted = c .before .before .before .before .before .before .before .before .before .before .before .before .before .before .before .before .before .before .before .before .before .before .before .before .before .before .before .before .before .before .before .write-counted in
+    let write-counted2 = c .before .before .before .before .before .before .before .before .before .before .before .before .before .before .before .write-counted2 in
+    let write-run = c .before .before .before .before .before .before .before .before .before .before .before .before .before .before .before .before .before .before .before .before .before .before .before .write-run in
+    let write-run2 = c .before .before .before .before .before .before .before .write-run2 in (
+      placed-on (pre .0)
+          (go-on
+          (go-on
+          (go-on (done (ids .given .1) (write-counted .ensures 0 names.delivery new))
+          (done (new′ .given .1) (write-run .ensures .0 0 names.new-count news)))
+          (done (systems .given .1) (write-counted2 .ensures 0 names.new-system obsolescent)))
+          (done (old .given .1) (write-run2 .ensures .0 0 names.old-count olds))),
+      (tt, omega (arith, last-of (old .given .1) (write-run2 .ensures .1 .0))),
+    )
 
 same-length-5 : tie.Need-same-length-5
 unfolding run signOf widthOf
-same-length-5 c = omega (arith, (go-on (go-on (go-on (done (c .before .before .before .before .before .before .before .before .before .before .before .before .before .before .before .before .before .before .before .before .before .before .before .before .before .before .before .before .before .before .ids .given .1) (c .before .before .before .before .before .before .before .before .before .before .before .before .before .before .before .before .before .before .before .before .before .before .before .before .before .before .before .before .before .before .before .before .before .before .write-counted .ensures 0 names.delivery new)) (done (c .before .before .before .before .before .before .before .before .before .before .before .before .before .before .before .before .before .before .before .before .before .before .new .given .1) (c .before .before .before .before .before .before .before .before .before .before .before .before .before .before .before .before .before .before .before .before .before .before .before .before .before .before .write-run .ensures .0 0 names.new-count news))) (done (c .before .before .before .before .before .before .before .before .before .before .before .before .before .before .systems .given .1) (c .before .before .before .before .before .before .before .before .before .before .before .before .before .before .before .before .before .before .write-counted2 .ensures 0 names.new-system obsolescent))) (done (c .before .before .before .before .before .before .old .given .1) (c .before .before .before .before .before .before .before .before .before .before .write-run2 .ensures .0 0 names.old-count olds))) .long)
+same-length-5 c =
+    let ids = c .before .before .before .before .before .before .before .before .before .before .before .before .before .before .before .before .before .before .before .before .before .before .before .before .before .before .before .before .before .before .ids in
+    let new′ = c .before .before .before .before .before .before .before .before .before .before .before .before .before .before .before .before .before .before .before .before .before .before .new in
+    let old = c .before .before .before .before .before .before .old in
+    let systems = c .before .before .before .before .before .before .before .before .before .before .before .before .before .before .systems in
+    let write-counted = c .before .before .before .before .before .before .before .before .before .before .before .before .before .before .before .before .before .before .before .before .before .before .before .before .before .before .before .before .before .before .before .before .before .before .write-counted in
+    let write-counted2 = c .before .before .before .before .before .before .before .before .before .before .before .before .before .before .before .before .before .before .write-counted2 in
+    let write-run = c .before .before .before .before .before .before .before .before .before .before .before .before .before .before .before .before .before .before .before .before .before .before .before .before .before .before .write-run in
+    let write-run2 = c .before .before .before .before .before .before .before .before .before .before .write-run2 in
+    omega (
+      arith,
+      (go-on
+          (go-on
+          (go-on (done (ids .given .1) (write-counted .ensures 0 names.delivery new))
+          (done (new′ .given .1) (write-run .ensures .0 0 names.new-count news)))
+          (done (systems .given .1) (write-counted2 .ensures 0 names.new-system obsolescent)))
+          (done (old .given .1) (write-run2 .ensures .0 0 names.old-count olds))) .long,
+    )
 
 returns-5 : tie.Need-returns-5
 unfolding run signOf widthOf
-returns-5 c = then (go-on (go-on (go-on (done (c .before .before .before .before .before .before .before .before .before .before .before .before .before .before .before .before .before .before .before .before .before .before .before .before .before .before .before .before .before .before .ids .given .1) (c .before .before .before .before .before .before .before .before .before .before .before .before .before .before .before .before .before .before .before .before .before .before .before .before .before .before .before .before .before .before .before .before .before .before .write-counted .ensures 0 names.delivery new)) (done (c .before .before .before .before .before .before .before .before .before .before .before .before .before .before .before .before .before .before .before .before .before .before .new .given .1) (c .before .before .before .before .before .before .before .before .before .before .before .before .before .before .before .before .before .before .before .before .before .before .before .before .before .before .write-run .ensures .0 0 names.new-count news))) (done (c .before .before .before .before .before .before .before .before .before .before .before .before .before .before .systems .given .1) (c .before .before .before .before .before .before .before .before .before .before .before .before .before .before .before .before .before .before .write-counted2 .ensures 0 names.new-system obsolescent))) (done (c .before .before .before .before .before .before .old .given .1) (c .before .before .before .before .before .before .before .before .before .before .write-run2 .ensures .0 0 names.old-count olds))) (c .before .before .write-counted3 .ensures 0 names.old-system end)
+returns-5 c =
+    let ids = c .before .before .before .before .before .before .before .before .before .before .before .before .before .before .before .before .before .before .before .before .before .before .before .before .before .before .before .before .before .before .ids in
+    let new′ = c .before .before .before .before .before .before .before .before .before .before .before .before .before .before .before .before .before .before .before .before .before .before .new in
+    let old = c .before .before .before .before .before .before .old in
+    let systems = c .before .before .before .before .before .before .before .before .before .before .before .before .before .before .systems in
+    let write-counted = c .before .before .before .before .before .before .before .before .before .before .before .before .before .before .before .before .before .before .before .before .before .before .before .before .before .before .before .before .before .before .before .before .before .before .write-counted in
+    let write-counted2 = c .before .before .before .before .before .before .before .before .before .before .before .before .before .before .before .before .before .before .write-counted2 in
+    let write-run = c .before .before .before .before .before .before .before .before .before .before .before .before .before .before .before .before .before .before .before .before .before .before .before .before .before .before .write-run in
+    let write-run2 = c .before .before .before .before .before .before .before .before .before .before .write-run2 in
+    then
+    (go-on
+    (go-on
+    (go-on (done (ids .given .1) (write-counted .ensures 0 names.delivery new))
+    (done (new′ .given .1) (write-run .ensures .0 0 names.new-count news)))
+    (done (systems .given .1) (write-counted2 .ensures 0 names.new-system obsolescent)))
+    (done (old .given .1) (write-run2 .ensures .0 0 names.old-count olds)))
+    (c .before .before .write-counted3 .ensures 0 names.old-system end)
 
 pub write-lists-spec : {M : Type 1} → statement M
 write-lists-spec =

@@ -39,27 +39,43 @@ slice-aggregate-write-needed : tie.Need-slice-aggregate-write-needed
 slice-aggregate-write-needed c = search needs
 
 write-needed-requires : tie.Need-write-needed-requires
-write-needed-requires c κs = (placed-on (c .before .before .before .before .before .before .before .before .before .before .before .before .before .pre) (done (c .before .before .before .before .head .given .1) (c .before .before .before .before .before .before .before .before .write-run .ensures .0 0 names.satellite rest)), tt)
+write-needed-requires c κs =
+    let pre = c .before .before .before .before .before .before .before .before .before .before .before .before .before .pre in
+    let write-run = c .before .before .before .before .before .before .before .before .write-run in
+    (placed-on pre (done (c .before .before .before .before .head .given .1) (write-run .ensures .0 0 names.satellite rest)), tt)
 
 same-length-2 : tie.Need-same-length-2
 same-length-2 c = search needs
 
 returns-2 : tie.Need-returns-2
 unfolding position run signOf widthOf
-returns-2 c = then (done (c .before .before .before .before .before .before .before .head .given .1) (c .before .before .before .before .before .before .before .before .before .before .before .write-run .ensures .0 0 names.satellite rest)) (starts (when-yes _ _ _ _ _ _ (eq-eqb _ _ (c .before .before .before .before .before .if1 .taken))) (c .before .before .write-needed .ensures .0 0 names.orbital (λ _. end)))
+returns-2 c =
+    let head = c .before .before .before .before .before .before .before .head in
+    let write-run = c .before .before .before .before .before .before .before .before .before .before .before .write-run in
+    then (done (head .given .1) (write-run .ensures .0 0 names.satellite rest))
+    (starts (when-yes _ _ _ _ _ _ (eq-eqb _ _ (c .before .before .before .before .before .if1 .taken)))
+    (c .before .before .write-needed .ensures .0 0 names.orbital (λ _. end)))
 
 slice-aggregate-write-needed-2 : tie.Need-slice-aggregate-write-needed-2
 slice-aggregate-write-needed-2 c = search needs
 
 write-needed-requires-2 : tie.Need-write-needed-requires-2
-write-needed-requires-2 c κs = (placed-on (c .before .before .before .before .before .before .before .before .before .before .before .before .before .pre) (done (c .before .before .before .before .head .given .1) (c .before .before .before .before .before .before .before .before .write-run .ensures .0 0 names.satellite rest)), tt)
+write-needed-requires-2 c κs =
+    let pre = c .before .before .before .before .before .before .before .before .before .before .before .before .before .pre in
+    let write-run = c .before .before .before .before .before .before .before .before .write-run in
+    (placed-on pre (done (c .before .before .before .before .head .given .1) (write-run .ensures .0 0 names.satellite rest)), tt)
 
 same-length-3 : tie.Need-same-length-3
 same-length-3 c = search needs
 
 returns-3 : tie.Need-returns-3
 unfolding position run signOf widthOf
-returns-3 c = then (done (c .before .before .before .before .before .before .before .head .given .1) (c .before .before .before .before .before .before .before .before .before .before .before .write-run .ensures .0 0 names.satellite rest)) (starts (when-no _ _ _ _ _ _ (ne-eqb _ _ (c .before .before .before .before .before .if1 .left))) (c .before .before .write-needed2 .ensures .0 0 names.elements (λ _. end)))
+returns-3 c =
+    let head = c .before .before .before .before .before .before .before .head in
+    let write-run = c .before .before .before .before .before .before .before .before .before .before .before .write-run in
+    then (done (head .given .1) (write-run .ensures .0 0 names.satellite rest))
+    (starts (when-no _ _ _ _ _ _ (ne-eqb _ _ (c .before .before .before .before .before .if1 .left)))
+    (c .before .before .write-needed2 .ensures .0 0 names.elements (λ _. end)))
 
 pub write-position-spec : {M : Type 1} → statement M
 write-position-spec =
