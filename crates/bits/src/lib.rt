@@ -262,20 +262,6 @@ fn put_word(out: &mut [u8], at: usize, v: u64)
     put_quad(out, at + 4, v);
 }
 
-// Stores the low bytes of v, as many as wanted, the last one first.
-fn put_bytes(out: &mut [u8], at: usize, k: usize, v: u64)
-    requires { ⌜ at + k ≤ length (now out) ⌝ }
-    ensures { λ _. ⌜ now (out .exit) ≡ splice (now (out .entry)) at (digits 256 k v) ⌝ }
-{
-    let mut rest = v;
-    let mut i = k;
-    while 0 < i {
-        i -= 1;
-        out[at + i] = (rest % 256) as u8;
-        rest = rest / 256;
-    }
-}
-
 // Fewer than four bytes.
 fn put_short(out: &mut [u8], at: usize, k: usize, v: u64)
     requires { ⌜ (at + k ≤ length (now out)) × (k < 4) ⌝ }
@@ -300,19 +286,19 @@ fn put_long(out: &mut [u8], at: usize, k: usize, v: u64)
     put_short(out, at + 4, k - 4, v);
 }
 
-// Stores the k low bytes of v from a byte place on, in few stores where there are at most eight of them.
+// Stores the k low bytes of v from a byte place on, in as few stores as can be.
 pub fn put_be(out: &mut [u8], at: usize, k: usize, v: u64)
-    requires { ⌜ at + k ≤ length (now out) ⌝ }
+    requires { ⌜ (at + k ≤ length (now out)) × (k ≤ 8) ⌝ }
     ensures { λ _. ⌜ now (out .exit) ≡ splice (now (out .entry)) at (digits 256 k v) ⌝ }
 {
-    if k < 4 {
+    if k == 4 {
+        put_quad(out, at, v);
+    } else if k < 4 {
         put_short(out, at, k, v);
-    } else if k < 8 {
-        put_long(out, at, k, v);
     } else if k == 8 {
         put_word(out, at, v);
     } else {
-        put_bytes(out, at, k, v);
+        put_long(out, at, k, v);
     }
 }
 
@@ -391,7 +377,9 @@ pub fn write_u(out: &mut [u8], at: usize, width: usize, v: u64)
     requires { ⌜ Storable (now out) at width ⌝ }
     ensures { λ _. ⌜ bitsOf (now (out .exit)) ≡ splice (bitsOf (now (out .entry))) at (digits 2 width v) ⌝ }
 {
-    if width < 58 {
+    if at % 8 == 0 && width == 32 {
+        put_quad(out, at / 8, v);
+    } else if width < 58 {
         write_within(out, at, width, v);
     } else {
         write_bytewise(out, at, width, v);
