@@ -12,6 +12,10 @@ ghost use Rattle.runs.specs.Lines.{widthOf, markOk, marksOk, line, run, runOf};
 ghost use Rattle.runs.specs.Steps.{lastOf};
 ghost use Rattle.write_runs.specs.Went.{Placed, Ran, Moved};
 use bits::put_be;
+use bits::put_byte;
+use bits::put_pair;
+use bits::put_quad;
+use bits::put_word;
 use bits::value_at;
 use format::Refusal;
 use runs::Step;
@@ -19,12 +23,23 @@ use runs::shown_of;
 use runs::size_of;
 use runs::width_of;
 
-// Stores the k low bytes of v at a place where there is room for them.
+// Stores the k low bytes of v at a place where there is room for them; a ledger's fields have 1, 2, 4 or 8.
 pub fn put(out: &mut [u8], place: usize, k: usize, v: u64)
     requires { ⌜ (place ≤ 65536) × (k ≤ 8) ⌝ }
     ensures { λ _. ⌜ (place + k ≤ length (now (out .entry)) → now (out .exit) ≡ splice (now (out .entry)) place (digits 256 k v)) ⌝ }
 {
-    if place + k <= out.len() {
+    if out.len() < place + k {
+        return;
+    }
+    if k == 4 {
+        put_quad(out, place, v);
+    } else if k == 1 {
+        put_byte(out, place, v);
+    } else if k == 2 {
+        put_pair(out, place, v);
+    } else if k == 8 {
+        put_word(out, place, v);
+    } else {
         put_be(out, place, k, v);
     }
 }
