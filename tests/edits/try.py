@@ -44,7 +44,7 @@ class Copy:
             (shutil.copytree if os.path.isdir(source) else shutil.copy)(source, os.path.join(self.path, part))
 
     def check(self, crate):
-        """'proved', 'compile' or the first thing that is refused."""
+        """'proved', 'compile' where the edit is no program or no definition, or the first thing that is refused."""
         run = subprocess.run(["rt", "check", crate], cwd=self.path, capture_output=True, text=True,
                              env={**os.environ, "RT_JOBS": "1"})
         log = run.stdout + run.stderr
@@ -53,6 +53,8 @@ class Copy:
         if "logic=not-proved" not in log:
             return "output" if "rt: %s proved" % crate in log else "compile"
         first = re.search(r"crates/%s/(\S+?): error: `([^`]*)`" % crate, log) or re.search(r"crates/%s/(\S+?): .*\(`([^`]*)`\)" % crate, log)
+        if first and first.group(1).startswith("specs/"):
+            return "compile"
         return "%s %s" % (first.group(1), first.group(2)) if first else "a function"
 
     def restore(self, touched):

@@ -13,14 +13,19 @@ use format::Refusal;
 use read_runs::lay;
 use read_runs::read_run;
 use runs::Step;
+use runs::copy_bytes;
 use runs::marks;
 
-// Stores bytes at a bit place where there is room for them.
+// Stores bytes at a bit place where there is room for them; at a byte place they are copied.
 fn lay_bytes(bytes: &[u8], out: &mut [u8], at: usize)
     requires { ⌜ at + 8 * length (now bytes) ≤ 600000 ⌝ }
     ensures { λ _. ⌜ (at + 8 * length (now (bytes .entry)) ≤ 8 * length (now (out .entry)) → bitsOf (now (out .exit)) ≡ splice (bitsOf (now (out .entry))) at (bitsOf (now (bytes .entry)))) ⌝ }
 {
     if out.len() < (at + 8 * bytes.len() + 7) / 8 {
+        return;
+    }
+    if at % 8 == 0 {
+        copy_bytes(bytes, &mut out[at / 8..]);
         return;
     }
     let mut i: usize = 0;

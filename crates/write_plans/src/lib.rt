@@ -14,6 +14,7 @@ ghost use Rattle.write_plans.specs.Slots.{packedBits};
 use bits::value_at;
 use format::Refusal;
 use runs::Step;
+use runs::copy_bytes;
 use runs::marks;
 use write_runs::put;
 use write_runs::write_needed;
@@ -29,13 +30,17 @@ fn lesser(a: usize, b: usize) -> usize
     b
 }
 
-// m bits of a body as bytes, the last one filled up with zeros, where there is room for them.
+// m bits of a body as bytes, the last one filled up with zeros, where there is room for them; whole bytes are copied.
 fn write_bits(body: &[u8], at: usize, m: usize, out: &mut [u8], place: usize)
     requires { ⌜ (length (now body) ≤ 4096) × (at + m ≤ 8 * length (now body)) × (place ≤ 40000) ⌝ }
     ensures { λ _. ⌜ (place + wholes m ≤ length (now (out .entry)) → now (out .exit) ≡ splice (now (out .entry)) place (packedBits (now (body .entry)) at m)) ⌝ }
 {
     let whole = (m + 7) / 8;
     if out.len() < place + whole {
+        return;
+    }
+    if at % 8 == 0 && m % 8 == 0 {
+        copy_bytes(&body[at / 8..at / 8 + whole], &mut out[place..]);
         return;
     }
     let mut i: usize = 0;
