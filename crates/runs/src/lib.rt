@@ -84,11 +84,8 @@ pub fn low_of(mark: u8, x: u64) -> u64
     requires { ⌜ T (markOk mark) ⌝ }
     ensures { λ r. ⌜ r ≡ x % 2 ^ widthOf mark ⌝ }
 {
-    let w = width_of(mark);
-    if w == 64 {
-        return x;
-    }
-    x % (1u64 << w)
+    let rest = 64 - width_of(mark);
+    (x << rest) >> rest
 }
 
 // Copies bytes as they are to the buffer's start, where there is room for all of them.

@@ -1,41 +1,33 @@
--- `low_of` meets its contract: 64 bits are all of them; fewer are a remainder.
+-- `low_of` meets its contract: a shift there and back leaves the low bits.
 -- Assumes nothing.
-use mathlib.Core.Path.{_≡_, sym, _∙_}
+use Prim.Native.Nat.{_-_}
 use native.Mathlib.Omega.{arith}
-use native.Mathlib.Nat.{mod-eq-of-lt}
 use borrow.Author.Needs.{needs}
-use lib.Pow.{pow-pos}
-use Rattle.bits.proofs.Values.{one-shl}
-use Rattle.runs.specs.Lines.{widthOf}
-use Rattle.runs.proofs.MarkLaws.{mark-facts}
+use Rattle.bits.proofs.Cuts.{lowest}
+use Rattle.runs.proofs.MarkLaws.{MarkFacts, mark-facts}
 use Rattle.runs.proofs.low_of.Statement.{statement}
 use Rattle.runs.proofs.low_of.Tie as tie
+
+-- the mark's width is 1 to 64
+facts : (c : tie.After-width-of) → MarkFacts (c .before .args .mark)
+facts c = mark-facts (c .before .args .mark) (c .before .pre)
 
 width-of-requires : tie.Need-width-of-requires
 width-of-requires c κs = search needs
 
-returns : tie.Need-returns
-returns c =
-    let z : widthOf (c .before .before .args .mark) ≡ 64 = sym (c .before .width-of .ensures) ∙ c .if1 .taken in
-    rw z (sym (mod-eq-of-lt (c .before .before .fits .x .fits)))
+sub-rest : tie.Need-sub-rest
+sub-rest c = omega (arith, facts c .most, c .width-of .ensures)
 
 shl-result : tie.Need-shl-result
-shl-result c = ((omega (arith, mark-facts (c .before .before .args .mark) (c .before .before .pre) .most, c .before .width-of .ensures)))
+shl-result c = omega (arith, facts c .some, c .width-of .ensures)
 
-rem-result : tie.Need-rem-result
-rem-result c =
-    rw
-    (one-shl (c .before .width-of .result)
-    ((omega (arith, mark-facts (c .before .before .args .mark) (c .before .before .pre) .most, c .before .width-of .ensures))))
-    (pow-pos (c .before .width-of .result))
+shr-result : tie.Need-shr-result
+shr-result c = omega (arith, facts c .some, c .width-of .ensures)
 
-returns-2 : tie.Need-returns-2
-returns-2 c =
-    rw (
-      one-shl (c .before .width-of .result)
-          ((omega (arith, mark-facts (c .before .before .args .mark) (c .before .before .pre) .most, c .before .width-of .ensures))),
-      c .before .width-of .ensures,
-    )
+returns : tie.Need-returns
+returns c =
+    let w = c .width-of .result in
+    rw (← c .width-of .ensures) (lowest (c .before .args .x) w (64 - w) (omega (arith, facts c .most, c .width-of .ensures)))
 
 pub low-of-spec : {M : Type 1} → statement M
-low-of-spec = tie.close (tie.spec width-of-requires returns shl-result rem-result returns-2)
+low-of-spec = tie.close (tie.spec width-of-requires sub-rest shl-result shr-result returns)
