@@ -80,7 +80,7 @@ class Copy:
         open(file, "w").write("\n".join(text))
         touched = []
         try:
-            users = [c for c in order if crate in order[c]] if "/specs/" in path else []
+            users = users_of(crate, before.split("\n"), i, order) if "/specs/" in path else []
             for c in [crate] + users:
                 touched.append(c)
                 verdict = self.check(c)
@@ -90,6 +90,20 @@ class Copy:
         finally:
             open(file, "w").write(before)
             self.restore(touched)
+
+
+def users_of(crate, text, i, order):
+    """The crates that lean on a crate, first those that mention the definition of a line."""
+    while i > 0 and (not text[i] or text[i].startswith((" ", "--"))):
+        i -= 1
+    name = re.sub(r"^(unfoldable |abbrev )?(pub )?(record )?", "", text[i]).split(" ")[0]
+    users = [c for c in order if crate in order[c]]
+
+    def mentions(c):
+        found = subprocess.run(["grep", "-rqwF", name, os.path.join(ROOT, "crates", c)], capture_output=True)
+        return found.returncode == 0
+
+    return sorted(users, key=lambda c: not mentions(c))
 
 
 def candidates(order, only, seed):
@@ -124,8 +138,8 @@ def main():
     order = crates()
     queues = candidates(order, options.only, options.seed)
     total = sum(len(found) for _, _, found in queues)
-    # every file gets its share of the edits, by how many it has, and at least one
-    shares = [max(1, round(options.count * len(found) / total)) for _, _, found in queues]
+    # every file gets its share of the edits, by how many it has: at least one, and at most four
+    shares = [min(4, max(1, round(options.count * len(found) / total))) for _, _, found in queues]
     lock, results = threading.Lock(), []
     copies = [Copy() for _ in range(options.jobs)]
 
