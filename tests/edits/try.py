@@ -107,7 +107,7 @@ def users_of(crate, text, i, order):
 
 
 def candidates(order, only, seed):
-    """The edits of each file, in a chosen order, files in turn."""
+    """The edits of each file; files and edits in an order that the seed decides."""
     chance = random.Random(seed)
     files = []
     for crate in order:
@@ -125,6 +125,7 @@ def candidates(order, only, seed):
         chance.shuffle(found)
         if found:
             queues.append((crate, path, found))
+    chance.shuffle(queues)
     return queues
 
 
