@@ -2,7 +2,7 @@
 ghost use Rattle.format.specs.Syntax.{end};
 ghost use Rattle.format.specs.Tables.{position, fragment, association};
 ghost use Rattle.read_runs.specs.Came.{LedgerPlaced, Laid};
-ghost use Rattle.read_tables.specs.Lists.{lists};
+ghost use Rattle.write_tables.specs.Lists.{lists};
 use read_runs::read_counted;
 use read_runs::read_run;
 use runs::Step;

@@ -10,7 +10,7 @@ use Rattle.format.specs.Tables.{u, fragment, centre, delivery}
 use Rattle.runs.specs.Lines.{run, signOf, widthOf}
 use Rattle.read_runs.proofs.CameLaws.{done, stops, starts, then, go-on, when-yes, when-no, need-any}
 use Rattle.read_runs.proofs.Runs.{placed-on}
-use Rattle.read_tables.specs.Lists.{lists}
+use Rattle.write_tables.specs.Lists.{lists}
 use Rattle.runs.proofs.Names as names
 use Rattle.read_tables.proofs.read_fragment.Statement.{statement}
 use Rattle.read_tables.proofs.read_fragment.Tie as tie
