@@ -1,15 +1,20 @@
-/* Satellite access table bodies and their ledgers.
+/* Satellite access table bodies, their plain bodies and their ledgers.
  *
  * sat_ledger_write files a body: it stores the ledger at the start of `out`. sat_ledger_read takes a ledger back to the plain
- * body. Both return 0, or the number of the refusal. On 0 the bytes of `out` behind the result keep their values; after a
- * refusal all of them do. `out` must not overlap the input. A pointer is never null, also where its length is 0.
+ * body. sat_plain_body gives a body's plain body without its ledger. All three return 0, or the number of the refusal. On 0 the
+ * bytes of `out` behind the result keep their values; after a refusal all of them do.
  *
  * The further calls are given the same bytes and the length of the buffer, not the buffer. They write nothing, keep nothing
  * between calls, and may be made before, after or without the call that fills the buffer:
  *   _need, _have       the two values of the refusal; 0 where nothing is refused
  *   _length, _table_id the length of the result and its table id; 0 after a refusal
  *
- * Buffers that always suffice: 6 + 2 * body_len bytes for a ledger, so never more than SAT_LEDGER_MAX; SAT_BODY_MAX for a body.
+ * Buffers that always suffice: 6 + 2 * body_len bytes for a ledger, so never more than SAT_LEDGER_MAX; for a plain body body_len
+ * bytes, or SAT_BODY_MAX where it comes from a ledger. The sat_plain_body calls take some 10,000 bytes of stack, the others 2,000.
+ *
+ * Pointers: (NULL, 0) is nothing, an empty body, an empty ledger or no buffer, and is answered as any other pointer with length 0;
+ * tests/c/pages.c tries it for each pointer of each call. With a length above 0 a pointer leads to that many bytes.
+ * `out` must not overlap the input: no promise holds then, though nothing stops such a call.
  *
  * Number  Refused since                                               need, have
  *  1      one field goes past the end of the body                     last bit wanted, bits in the body
@@ -41,7 +46,7 @@
  *         0 or 1, or an unused slot bit is set
  * 26      ledger: its plain body has more than 4,096 bytes            that length, 4096
  *
- * The writer refuses by 1 to 22, the reader by 22 to 26.
+ * sat_ledger_write and sat_plain_body refuse by 1 to 22, the same bodies by the same numbers but for 22; sat_ledger_read by 22 to 26.
  */
 #ifndef SAT_LEDGER_H
 #define SAT_LEDGER_H
@@ -67,6 +72,12 @@ size_t sat_ledger_read_need(const uint8_t *ledger, size_t ledger_len, size_t out
 size_t sat_ledger_read_have(const uint8_t *ledger, size_t ledger_len, size_t out_len);
 size_t sat_ledger_read_length(const uint8_t *ledger, size_t ledger_len, size_t out_len);
 uint8_t sat_ledger_read_table_id(const uint8_t *ledger, size_t ledger_len, size_t out_len);
+
+uint32_t sat_plain_body(uint8_t table_id, const uint8_t *body, size_t body_len, uint8_t *out, size_t out_len);
+size_t sat_plain_body_need(uint8_t table_id, const uint8_t *body, size_t body_len, size_t out_len);
+size_t sat_plain_body_have(uint8_t table_id, const uint8_t *body, size_t body_len, size_t out_len);
+size_t sat_plain_body_length(uint8_t table_id, const uint8_t *body, size_t body_len, size_t out_len);
+uint8_t sat_plain_body_table_id(uint8_t table_id, const uint8_t *body, size_t body_len, size_t out_len);
 
 #ifdef __cplusplus
 }

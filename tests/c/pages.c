@@ -1,5 +1,6 @@
-/* Buffers against unreadable pages: pages BODIES LEDGERS, with one case a line (tests/replay). A byte touched outside a buffer
- * ends the program. Every tenth case and the first 60 are tried. */
+/* Buffers against unreadable pages: pages BODIES LEDGERS PLAINS, three files with one case a line. BODIES and LEDGERS are the replay
+ * list with the Rust's answers, PLAINS what tests/replay/decode.py makes of the ledgers; none comes from the code under test.
+ * A byte touched outside a buffer ends the program. Every tenth case and the first 60 are tried. */
 #define _DEFAULT_SOURCE
 #include <stdio.h>
 #include <stdlib.h>
@@ -9,12 +10,13 @@
 
 #define SPAN 16384
 static unsigned long checks, line;
+static const char *about = "";
 
 static void check(int holds, const char *what)
 {
     checks++;
     if (!holds) {
-        printf("line %lu: %s\n", line, what);
+        printf("line %lu %s: %s\n", line, about, what);
         exit(1);
     }
 }
@@ -37,76 +39,266 @@ static size_t unhex(const char *s, uint8_t *to)
     return n;
 }
 
+/* ---- the three calls, each with its further calls, under one form; a ledger names its table id itself */
+
+static uint32_t read_(uint8_t id, const uint8_t *in, size_t n, uint8_t *out, size_t room)
+{
+    (void)id;
+    return sat_ledger_read(in, n, out, room);
+}
+
+static size_t read_need(uint8_t id, const uint8_t *in, size_t n, size_t room)
+{
+    (void)id;
+    return sat_ledger_read_need(in, n, room);
+}
+
+static size_t read_have(uint8_t id, const uint8_t *in, size_t n, size_t room)
+{
+    (void)id;
+    return sat_ledger_read_have(in, n, room);
+}
+
+static size_t read_length(uint8_t id, const uint8_t *in, size_t n, size_t room)
+{
+    (void)id;
+    return sat_ledger_read_length(in, n, room);
+}
+
+static uint8_t read_table_id(uint8_t id, const uint8_t *in, size_t n, size_t room)
+{
+    (void)id;
+    return sat_ledger_read_table_id(in, n, room);
+}
+
+typedef struct {
+    const char *name;
+    uint32_t (*fill)(uint8_t, const uint8_t *, size_t, uint8_t *, size_t);
+    size_t (*need)(uint8_t, const uint8_t *, size_t, size_t);
+    size_t (*have)(uint8_t, const uint8_t *, size_t, size_t);
+    size_t (*length)(uint8_t, const uint8_t *, size_t, size_t);
+    uint8_t (*table_id)(uint8_t, const uint8_t *, size_t, size_t);
+} Call;
+
+static const Call
+    WRITE = {"sat_ledger_write", sat_ledger_write, sat_ledger_write_need, sat_ledger_write_have, sat_ledger_write_length,
+             sat_ledger_write_table_id},
+    READ = {"sat_ledger_read", read_, read_need, read_have, read_length, read_table_id},
+    PLAIN = {"sat_plain_body", sat_plain_body, sat_plain_body_need, sat_plain_body_have, sat_plain_body_length,
+             sat_plain_body_table_id};
+
+/* ---- what is wanted of a call: the result's bytes, or a refusal where bytes is NULL */
+
+typedef struct {
+    const uint8_t *bytes;
+    size_t size, number, need, have;
+} Want;
+
+static Want result(const uint8_t *bytes, size_t size)
+{
+    return (Want){bytes, size, 0, 0, 0};
+}
+
+static Want refusal(size_t number, size_t need, size_t have)
+{
+    return (Want){NULL, 0, number, need, have};
+}
+
+static void numbers(const Call *f, uint8_t id, const uint8_t *in, size_t n, size_t room, Want w)
+{
+    check(f->need(id, in, n, room) == w.need, "need");
+    check(f->have(id, in, n, room) == w.have, "have");
+    check(f->length(id, in, n, room) == (w.bytes ? w.size : 0), "length");
+    check(f->table_id(id, in, n, room) == (w.bytes ? id : 0), "table id");
+}
+
 static uint8_t *in_area, *out_area;
 
-/* n bytes of input and room bytes of output, at the areas' ends or starts; want is the result, or NULL with number, need, have */
-static void one(int reads, uint8_t id, const uint8_t *in, size_t n, size_t room, int at_end, const uint8_t *want, size_t size,
-                size_t no, size_t need, size_t have)
+/* n bytes of input and room bytes of output, at the areas' ends or starts */
+static void one(const Call *f, uint8_t id, const uint8_t *in, size_t n, size_t room, int at_end, Want w)
 {
     uint8_t *src = at_end ? in_area + SPAN - n : in_area;
     uint8_t *out = at_end ? out_area + SPAN - room : out_area;
+    about = f->name;
     memcpy(src, in, n);
     memset(out_area, 0xa5, SPAN);
-    if (want != NULL && room < size) {
-        no = 22, need = size, have = room;
-        want = NULL;
-    }
-    if (want != NULL)
-        no = need = have = 0;
-    uint32_t r = reads ? sat_ledger_read(src, n, out, room) : sat_ledger_write(id, src, n, out, room);
-    check(r == no, "number");
-    check((reads ? sat_ledger_read_need(src, n, room) : sat_ledger_write_need(id, src, n, room)) == need, "need");
-    check((reads ? sat_ledger_read_have(src, n, room) : sat_ledger_write_have(id, src, n, room)) == have, "have");
-    check((reads ? sat_ledger_read_length(src, n, room) : sat_ledger_write_length(id, src, n, room)) == (want ? size : 0), "length");
-    check((reads ? sat_ledger_read_table_id(src, n, room) : sat_ledger_write_table_id(id, src, n, room)) == (want ? id : 0), "id");
+    if (w.bytes != NULL && room < w.size)
+        w = refusal(22, w.size, room);
+    check(f->fill(id, src, n, out, room) == w.number, "number");
+    numbers(f, id, src, n, room, w);
     check(memcmp(src, in, n) == 0, "input changed");
     size_t from = (size_t)(out - out_area);
     for (size_t i = 0; i < SPAN; i++)
-        if (out_area[i] != (want && i >= from && i - from < size ? want[i - from] : 0xa5))
+        if (out_area[i] != (w.bytes && i >= from && i - from < w.size ? w.bytes[i - from] : 0xa5))
             check(0, "bytes left");
     checks++;
 }
 
-static void rooms(int reads, uint8_t id, const uint8_t *in, size_t n, const uint8_t *want, size_t size, size_t no, size_t need,
-                  size_t have)
+static void rooms(const Call *f, uint8_t id, const uint8_t *in, size_t n, Want w)
 {
-    for (int e = 0; e < 2; e++) {
-        one(reads, id, in, n, 0, e, want, size, no, need, have);
-        if (size > 0)
-            one(reads, id, in, n, size - 1, e, want, size, no, need, have);
-        one(reads, id, in, n, size, e, want, size, no, need, have);
-        one(reads, id, in, n, size + 1, e, want, size, no, need, have);
+    size_t tried[] = {0, w.size > 0 ? w.size - 1 : 0, w.size, w.size + 1, SAT_LEDGER_MAX};
+    for (int at_end = 0; at_end < 2; at_end++)
+        for (size_t i = 0; i < sizeof tried / sizeof *tried; i++)
+            one(f, id, in, n, tried[i], at_end, w);
+}
+
+/* ---- NULL with length 0 is nothing: as a pointer that is not NULL, and of length 0 */
+
+static void nothing(const Call *f, uint8_t id, const uint8_t *in, size_t n, Want w)
+{
+    uint8_t *src = in_area + SPAN - n;
+    about = f->name;
+    if (n > 0)
+        memcpy(src, in, n);
+    memset(out_area, 0xa5, SPAN);
+    for (int i = 0; i < (n == 0 ? 2 : 1); i++, src = NULL) {
+        Want short_of = w.bytes != NULL && w.size > 0 ? refusal(22, w.size, 0) : w;
+        check(f->fill(id, src, n, out_area + SPAN, 0) == short_of.number, "number, no room");
+        check(f->fill(id, src, n, NULL, 0) == short_of.number, "number, NULL for the buffer");
+        numbers(f, id, src, n, 0, short_of);
+        check(f->fill(id, src, n, out_area, SPAN) == w.number, "number, NULL for the input");
+        numbers(f, id, src, n, SPAN, w);
+        if (w.bytes != NULL)
+            check(memcmp(out_area, w.bytes, w.size) == 0, "bytes, NULL for the input");
     }
+}
+
+static void nothings(void)
+{
+    static const uint8_t empty0[] = {0, 4, 1, 0, 0, 0}, empty3[] = {0, 4, 1, 3, 0, 0}, raw5[] = {0, 2, 1, 5}, seven[] = {7};
+    nothing(&WRITE, 0, NULL, 0, result(empty0, 6));
+    nothing(&WRITE, 2, NULL, 0, refusal(2, 1, 0));
+    nothing(&WRITE, 3, NULL, 0, result(empty3, 6));
+    nothing(&WRITE, 4, NULL, 0, refusal(2, 1, 0));
+    nothing(&WRITE, 5, NULL, 0, result(raw5, 4));
+    nothing(&PLAIN, 0, NULL, 0, result(seven, 0));
+    nothing(&PLAIN, 2, NULL, 0, refusal(2, 1, 0));
+    nothing(&PLAIN, 5, NULL, 0, result(seven, 0));
+    nothing(&READ, 0, NULL, 0, refusal(23, 0, 0));
+    nothing(&WRITE, 1, seven, 1, result((const uint8_t[]){0, 4, 1, 1, 0, 0}, 6));
+    nothing(&PLAIN, 9, seven, 1, result(seven, 1));
+    nothing(&PLAIN, 4, seven, 1, refusal(15, 64, 8));
+    nothing(&READ, 0, empty0, 6, result(seven, 0));
+    nothing(&READ, 5, raw5, 4, result(seven, 0));
+}
+
+/* ---- ledgers that no body has; the places are counted on document 01's widths */
+
+#define CLOCK "0000000000000000" "00" "0000"
+static const struct {
+    const char *ledger;
+    size_t number, place;
+} damaged[] = {
+    /* id 0: count 4, satellite_id 6, reserved 10, position_system 11, orbital_position 12, west_east_flag 14, reserved 15 */
+    {"000e0100" "0001" "01000007" "00" "00" "0120" "01" "00", 25, 6},
+    {"000e0100" "0001" "00000007" "80" "00" "0120" "01" "00", 25, 10},
+    {"000e0100" "0001" "00000007" "00" "02" "0120" "01" "00", 25, 11},
+    {"000e0100" "0001" "00000007" "00" "00" "0120" "02" "00", 25, 14},
+    {"000e0100" "0001" "00000007" "00" "00" "0120" "01" "ff", 25, 15},
+    /* a field is there before it is wide; what is wide is met before what is missing behind it */
+    {"000d0100" "0001" "00000007" "00" "00" "0120" "01", 23, 15},
+    {"000d0100" "0001" "00000007" "00" "00" "0120" "02", 25, 14},
+    {"000f0100" "0001" "00000007" "00" "00" "0120" "01" "00" "00", 23, 16},
+    /* id 1: id 6, first 10, last 11, reserved 12, latitude 13, reserved 17, longitude 18, max_distance 22, reserved 26, count 27 */
+    {"00210101" "0001" "00000007" "01" "00" "00" "00020000" "00" "00000000" "00000000" "00" "0000" "00" "0000" "00" "0000", 25, 13},
+    {"00210101" "0001" "00000007" "01" "00" "00" "fffdffff" "00" "00000000" "00000000" "00" "0000" "00" "0000" "00" "0000", 25, 13},
+    {"00210101" "0001" "00000007" "01" "00" "00" "00000000" "00" "fffbffff" "00000000" "00" "0000" "00" "0000" "00" "0000", 25, 18},
+    {"00210101" "0001" "00000007" "01" "00" "00" "00000000" "00" "00000000" "01000000" "00" "0000" "00" "0000" "00" "0000", 25, 22},
+    {"00210101" "0001" "00000007" "01" "00" "00" "00000000" "00" "00000000" "00000000" "00" "0400" "00" "0000" "00" "0000", 25, 27},
+    /* id 2: type 4, four leap flags 5 to 8, base 9, reserved 17, extension 18, seconds 20, nanoseconds 28 */
+    {"001e0102" "01" "00" "00" "02" "00" CLOCK "0000000000000000" "00000000", 25, 7},
+    {"001e0102" "01" "00" "00" "00" "00" "0000000200000000" "00" "0000" "0000000000000000" "00000000", 25, 9},
+    /* id 3: id 6, reserved 10 and 11, mode 12, clocks 13 and 24, reserved 35, bit_map_size 36, reserved 38, current_slot 39, slots 41 */
+    {"00290103" "0001" "00000007" "00" "00" "04" CLOCK CLOCK "00" "0009" "00" "0000" "ff80", 25, 12},
+    {"00290103" "0001" "00000007" "00" "00" "01" "0000000000000000" "00" "0200" CLOCK "00" "0009" "00" "0000" "ff80", 25, 22},
+    {"00290103" "0001" "00000007" "00" "00" "01" CLOCK CLOCK "00" "8009" "00" "0000" "ff80", 25, 36},
+    {"00290103" "0001" "00000007" "00" "00" "01" CLOCK CLOCK "00" "0009" "00" "0000" "ff81", 25, 41},
+    {"00290103" "0001" "00000007" "00" "00" "01" CLOCK CLOCK "00" "0009" "00" "0000" "ffc0", 25, 41},
+    /* id 4: versions 4 and 5, year 6, reserved 7, day 8, fraction 10, count 14, satellite_id 16, reserved 20, flags 21 to 25, count 26 */
+    {"001a0104" "01" "00" "00" "00" "0200" "00000000" "0001" "00000007" "00" "00" "00" "00" "00" "00" "0000", 25, 8},
+    {"001a0104" "01" "00" "00" "00" "0000" "00000000" "0001" "00000007" "00" "00" "00" "00" "00" "02" "0000", 25, 25},
+};
+
+static void damaged_ledgers(void)
+{
+    static uint8_t ledger[SPAN];
+    for (size_t i = 0; i < sizeof damaged / sizeof *damaged; i++) {
+        line = i;
+        size_t n = unhex(damaged[i].ledger, ledger);
+        rooms(&READ, 0, ledger, n, refusal(damaged[i].number, damaged[i].place, 0));
+    }
+}
+
+/* so many plans of mode 0 and zeros: 51 bytes each in the ledger, 31 in the plain body, where plan_length is 25 */
+static void plans(size_t count)
+{
+    static uint8_t ledger[SPAN], plain[SPAN];
+    size_t n = 6 + 51 * count, k = 31 * count;
+    memset(ledger, 0, n);
+    memset(plain, 0, k);
+    ledger[0] = (uint8_t)((n - 2) >> 8), ledger[1] = (uint8_t)(n - 2), ledger[2] = 1, ledger[3] = 3;
+    ledger[4] = (uint8_t)(count >> 8), ledger[5] = (uint8_t)count;
+    for (size_t i = 0; i < count; i++)
+        plain[31 * i + 5] = 25;
+    rooms(&READ, 3, ledger, n, k > 4096 ? refusal(26, k, 4096) : result(plain, k));
+}
+
+/* plain bodies of 4,096 bytes and of one more; of 4,092 and 4,123 */
+static void long_ledgers(void)
+{
+    static uint8_t ledger[4 + 4097] = {0x10, 0x02, 1, 9};
+    rooms(&READ, 9, ledger, 4 + 4096, result(ledger + 4, 4096));
+    ledger[1] = 3;
+    rooms(&READ, 9, ledger, 4 + 4097, refusal(26, 4097, 4096));
+    plans(132);
+    plans(133);
+}
+
+/* ---- the replay list */
+
+/* a body with the line of its ledger and that of its plain body */
+static void stored(const char *body_line, const char *ledger_line, const char *plain_line)
+{
+    static uint8_t body[10000], ledger[10000], plain[10000];
+    size_t n = unhex(body_line, body), number, need, have;
+    uint8_t id = body[0];
+    if (sscanf(ledger_line, "R %zu %zu %zu", &number, &need, &have) == 3) {
+        rooms(&WRITE, id, body + 1, n - 1, refusal(number, need, have));
+        rooms(&PLAIN, id, body + 1, n - 1, refusal(number, need, have));
+        return;
+    }
+    unsigned named;
+    int at = 0;
+    check(sscanf(plain_line, "%u %n", &named, &at) == 1 && named == id, "the third file's table id");
+    size_t m = unhex(ledger_line, ledger), k = unhex(plain_line + at, plain);
+    rooms(&WRITE, id, body + 1, n - 1, result(ledger, m));
+    rooms(&PLAIN, id, body + 1, n - 1, result(plain, k));
+    rooms(&READ, id, ledger, m, result(plain, k));
+    one(&WRITE, id, plain, k, m, 1, result(ledger, m));
+    one(&PLAIN, id, plain, k, k, 1, result(plain, k));
+    rooms(&READ, id, ledger, m - 1, refusal(23, 0, 0));
+    ledger[2] = 9;
+    rooms(&READ, id, ledger, m, refusal(24, 2, 0));
 }
 
 int main(int argc, char **argv)
 {
-    static char a[20000], b[20000];
-    static uint8_t body[10000], ledger[10000], plain[SAT_BODY_MAX], again[SAT_LEDGER_MAX];
-    FILE *f = argc == 3 ? fopen(argv[1], "r") : NULL, *g = argc == 3 ? fopen(argv[2], "r") : NULL;
-    if (f == NULL || g == NULL)
-        return 2;
+    static char text[3][20000];
+    FILE *file[3];
+    for (int i = 0; i < 3; i++)
+        if (argc != 4 || (file[i] = fopen(argv[i + 1], "r")) == NULL)
+            return 2;
     in_area = fenced();
     out_area = fenced();
-    while (fgets(a, sizeof a, f) && fgets(b, sizeof b, g)) {
-        if (++line > 60 && line % 10 != 0)
-            continue;
-        size_t n = unhex(a, body), no, need, have;
-        if (sscanf(b, "R %zu %zu %zu", &no, &need, &have) == 3) {
-            rooms(0, body[0], body + 1, n - 1, NULL, 0, no, need, have);
-            continue;
-        }
-        size_t m = unhex(b, ledger);
-        rooms(0, body[0], body + 1, n - 1, ledger, m, 0, 0, 0);
-        /* the plain body is one whose ledger is the same */
-        check(sat_ledger_read(ledger, m, plain, sizeof plain) == 0, "read");
-        size_t k = sat_ledger_read_length(ledger, m, sizeof plain);
-        check(sat_ledger_write(body[0], plain, k, again, sizeof again) == 0 && memcmp(again, ledger, m) == 0, "again");
-        rooms(1, body[0], ledger, m, plain, k, 0, 0, 0);
-        rooms(1, body[0], ledger, m - 1, NULL, 0, 23, 0, 0);
-        ledger[2] = 9;
-        rooms(1, body[0], ledger, m, NULL, 0, 24, 2, 0);
+    nothings();
+    damaged_ledgers();
+    long_ledgers();
+    line = 0;
+    while (fgets(text[0], sizeof text[0], file[0])) {
+        check(fgets(text[1], sizeof text[1], file[1]) && fgets(text[2], sizeof text[2], file[2]), "a line is missing");
+        if (++line <= 60 || line % 10 == 0)
+            stored(text[0], text[1], text[2]);
     }
     printf("%lu checks\n", checks);
-    return checks > 1000 ? 0 : 1;
+    return line > 3000 ? 0 : 1;
 }

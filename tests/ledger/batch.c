@@ -2,6 +2,7 @@
  *
  * batch write   a line is a table id and a body; the answer is the ledger
  * batch back    the same, and the ledger is read back: the answer is the plain body, '-' for an empty one
+ * batch plain   a line is a table id and a body; the answer is the plain body, '-' for an empty one, made of the body itself
  * batch read    a line is a ledger; the answer is the table id (two digits) and the plain body
  *
  * A refusal is 'R number need have'; an empty line gives 'no input'. Exit 2 on bad hexadecimal or a bad argument. */
@@ -76,6 +77,22 @@ static void write_case(size_t n, int back) {
     show(plain == 0 ? "-" : "", again, plain);
 }
 
+static void plain_case(size_t n) {
+    uint8_t id = in[0];
+    const uint8_t *body = in + 1;
+    uint32_t r = sat_plain_body(id, body, n - 1, again, sizeof again);
+    if (r != 0) {
+        refusal(r, sat_plain_body_need(id, body, n - 1, sizeof again), sat_plain_body_have(id, body, n - 1, sizeof again));
+        return;
+    }
+    if (sat_plain_body_table_id(id, body, n - 1, sizeof again) != id) {
+        puts("another table id");
+        return;
+    }
+    size_t plain = sat_plain_body_length(id, body, n - 1, sizeof again);
+    show(plain == 0 ? "-" : "", again, plain);
+}
+
 static void read_case(size_t n) {
     uint32_t r = sat_ledger_read(in, n, again, sizeof again);
     if (r != 0) {
@@ -89,15 +106,16 @@ static void read_case(size_t n) {
 
 int main(int argc, char **argv) {
     const char *what = argc == 2 ? argv[1] : "";
-    int is_read = strcmp(what, "read") == 0, back = strcmp(what, "back") == 0;
-    if (!is_read && !back && strcmp(what, "write") != 0) {
-        fputs("use: batch write|back|read < cases\n", stderr);
+    int is_read = strcmp(what, "read") == 0, back = strcmp(what, "back") == 0, plain = strcmp(what, "plain") == 0;
+    if (!is_read && !back && !plain && strcmp(what, "write") != 0) {
+        fputs("use: batch write|back|plain|read < cases\n", stderr);
         return 2;
     }
     while (fgets(line, sizeof line, stdin) != NULL) {
         size_t n = bytes_of();
         if (is_read) read_case(n);
         else if (n == 0) puts("no input");
+        else if (plain) plain_case(n);
         else write_case(n, back);
     }
     return fflush(stdout) == 0 ? 0 : 1;

@@ -2,6 +2,7 @@
 """Reads a ledger by document 01's result 2 alone and lays its fields out as a plain body.
 
 Use: decode.py LEDGER-HEX               table id and plain body
+     decode.py --lines < LEDGERS        the same for each line; a line with a refusal as it is
      decode.py --check [SEED COUNT]     the replay list, and COUNT fresh cases of SEED
 
 The check takes each accepted case and compares the plain body decoded here with the one that
@@ -229,11 +230,18 @@ def check(name, cases, lines=None):
     return len(wrong)
 
 
+def shown(ledger):
+    table_id, body = decode(bytes.fromhex(ledger))
+    return f"{table_id} {body.hex() or '-'}"
+
+
 def main():
     arguments = sys.argv[1:]
-    if len(arguments) == 1 and arguments[0] != "--check":
-        table_id, body = decode(bytes.fromhex(arguments[0]))
-        print(table_id, body.hex() or "-")
+    if arguments == ["--lines"]:
+        for line in map(str.strip, sys.stdin):
+            print(line if line.startswith("R") else shown(line))
+    elif len(arguments) == 1 and arguments[0] != "--check":
+        print(shown(arguments[0]))
     elif arguments[:1] == ["--check"] and len(arguments) in (1, 3):
         wrong = check("replay list", stored("bodies.txt"), stored("ledgers.txt"))
         if len(arguments) == 3:

@@ -10,8 +10,6 @@ use Rattle.format.specs.Tables.{clock}
 use Rattle.format.specs.ByName.{the}
 use Rattle.format.specs.At.{read}
 use Rattle.format.specs.declared.Refusal.{Refusal}
-use Rattle.bits.specs.declared.Bits.{Bits}
-use Rattle.bits.specs.declared.Bits.the-variants as bits
 use Rattle.clocks.specs.declared.Clock.{Clock}
 use Rattle.clocks.specs.declared.Stamp.{Stamp}
 use Rattle.clocks.specs.declared.ClockAnswer.{ClockAnswer}
@@ -39,18 +37,6 @@ stampBy t ts =
       day = the (t ++ "_day") ts;
       fraction = the (t ++ "_day_fraction") ts;
     }
-
--- the number in what reading a field found; 0 where there is none
-unfoldable pub numberOf : Bits → ℕ
-numberOf (bits.Value v n) = v
-numberOf (bits.Refused f) = 0
-
--- a clock of what reading its three fields found: the first refusal is the clock's
-unfoldable pub clockFrom : Bits → Bits → Bits → ClockAnswer
-clockFrom (bits.Refused f) z e = Refused f
-clockFrom (bits.Value b n) (bits.Refused f) e = Refused f
-clockFrom (bits.Value b n) (bits.Value z m) (bits.Refused f) = Refused f
-clockFrom (bits.Value b n) (bits.Value z m) (bits.Value e q) = Read (record { base = b; reserved = z; ext = e }) q
 
 -- reading a clock alone; under which name makes no difference
 unfoldable pub clockAt : List ℕ → ℕ → ClockAnswer

@@ -1,8 +1,7 @@
 // A clock: 48 bits, of which 33 are its base and 9 its extension. A stamp: 56 bits, a year, a day and a part of a day.
 ghost use mathlib.Core.Path.{_≡_};
-ghost use Prim.Native.Nat.{_^_, _<_};
 ghost use Rattle.bits.specs.Read.{Place, Room};
-ghost use Rattle.clocks.specs.Clocks.{numberOf, clockFrom, clockAt, clockOf, stampOf, refusalOf};
+ghost use Rattle.clocks.specs.Clocks.{clockAt, clockOf, stampOf, refusalOf};
 use bit_reader::BitReader;
 use bits::Bits;
 use bits::refusal_of;
@@ -42,38 +41,6 @@ pub fn clock_refusal(r: ClockAnswer) -> Refusal
     }
 }
 
-// A clock of what reading its fields found; the first field that was refused refuses it.
-fn clock_of(base: Bits, reserved: Bits, ext: Bits) -> ClockAnswer
-    requires { ⌜ (numberOf reserved < 2 ^ 6) × (numberOf ext < 2 ^ 9) ⌝ }
-    ensures { λ r. ⌜ r ≡ clockFrom base reserved ext ⌝ }
-{
-    let Bits::Value {
-        value: base,
-        next: _,
-    } = base
-    else {
-        return ClockAnswer::Refused(refusal_of(base));
-    };
-    let Bits::Value {
-        value: reserved,
-        next: _,
-    } = reserved
-    else {
-        return ClockAnswer::Refused(refusal_of(reserved));
-    };
-    let Bits::Value { value: ext, next } = ext else {
-        return ClockAnswer::Refused(refusal_of(ext));
-    };
-    ClockAnswer::Read {
-        clock: Clock {
-            base,
-            reserved: reserved as u8,
-            ext: ext as u16,
-        },
-        next,
-    }
-}
-
 // Reads a clock by a reader of its own; refused with number 1 at the first of its fields that goes on behind the end.
 pub fn read_clock(s: &[u8], at: usize) -> ClockAnswer
     requires { ⌜ Place (now s) at ⌝ }
@@ -81,10 +48,27 @@ pub fn read_clock(s: &[u8], at: usize) -> ClockAnswer
 {
     let mut reader = BitReader::new(s);
     reader.skip(at);
-    let base = reader.read_u(33);
-    let reserved = reader.read_u(6);
-    let ext = reader.read_u(9);
-    clock_of(base, reserved, ext)
+    let r = reader.read_u(33);
+    let Bits::Value { value: base, .. } = r else {
+        return ClockAnswer::Refused(refusal_of(r));
+    };
+    let r = reader.read_u(6);
+    let Bits::Value { value: spare, .. } = r else {
+        return ClockAnswer::Refused(refusal_of(r));
+    };
+    let r = reader.read_u(9);
+    let Bits::Value { value: ext, .. } = r else {
+        return ClockAnswer::Refused(refusal_of(r));
+    };
+    let clock = Clock {
+        base,
+        reserved: spare as u8,
+        ext: ext as u16,
+    };
+    ClockAnswer::Read {
+        clock,
+        next: reader.bit_pos,
+    }
 }
 
 // The clock at a place where all of it is there.

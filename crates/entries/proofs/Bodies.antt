@@ -11,7 +11,7 @@ use Rattle.format.specs.Refusals.{refuse}
 use Rattle.format.specs.Syntax.{Syntax, end, Field, Parse, got, refused, andThen}
 use Rattle.format.specs.Tables.{position, fragment, association, beamhopping, header}
 use Rattle.format.specs.Body.{readBody}
-use Rattle.format.specs.Whole.{layout, starts, startsAs, bodyStarts}
+use Rattle.format.specs.Whole.{Layout, sole, many, opaque, layout, starts, startsAs, bodyStarts}
 use Rattle.format.specs.At.{made, read, endOf, seek}
 use Rattle.format.specs.declared.Refusal.{Refusal}
 use Rattle.format.specs.declared.EntryEnd.{EntryEnd}
@@ -20,7 +20,7 @@ use Rattle.format.proofs.FineTables.{fine-header, least-header}
 use Rattle.format.proofs.DigitLaws.{length-bits}
 use Rattle.format.proofs.ReadLaws.{rest-at}
 use Rattle.format.proofs.WalkLaws.{read-on, read-no}
-use Rattle.entries.specs.Entries.{IsList, entrySyntax, leastBits, headSyntax, endRefusal}
+use Rattle.entries.specs.Entries.{IsList, entrySyntax, leastBits, headIn, headSyntax, headEnd, endRefusal}
 
 -- ---- what stands before the entries
 
@@ -79,6 +79,24 @@ module _ (b : List ℕ) where
   unheaded (suc (suc (suc (suc zero)))) f l e = head-refused f e
   unheaded (suc (suc (suc (suc (suc i))))) f l e = absurd l
 
+-- where a head was said to end, and where there is none
+pub head-ends : (id : ℕ) (b : List ℕ) (q : ℕ) → endOf b (headSyntax id) 0 ≡ At q → headEnd id b ≡ q
+unfolding headEnd endOf read
+head-ends id b q e = go (readBody (8 * length b) 0 (headSyntax id) (bitsOf b)) e
+  where
+    go : (x : Parse (List Field)) → made (8 * length b) (λ ts q. At q) Refused x ≡ At q → made (8 * length b) (λ ts q. q) (λ f. 0) x ≡ q
+    go (got ts rest) w = cc
+    go (refused u v z) w = let o : _≡_ {A = ℕ} 0 1 = cc in absurd (omega arith)
+
+pub no-head-end : (id : ℕ) (b : List ℕ) → (IsList (layout id) → ⊥) → headEnd id b ≡ 0
+unfolding headEnd read readBody
+no-head-end id b h = go (layout id) h
+  where
+    go : (y : Layout) → (IsList y → ⊥) → read b 0 (headIn y) 0 (λ ts q. q) (λ f. 0) ≡ 0
+    go (sole s) h = omega (arith, length-bits b)
+    go (many x m s) h = absurd (h tt)
+    go opaque h = omega (arith, length-bits b)
+
 pub no-header : (b : List ℕ) (id : ℕ) → IsList (layout id) → (id ≡ 4 → ⊥) → At 0 ≡ endOf b (headSyntax id) 0
 unfolding endOf read readBody
 no-header b id l h = go id l h
@@ -96,8 +114,8 @@ no-header b id l h = go id l h
 
 -- ---- what is made of a body's places
 
-module _ {A : Type 0} (i : ℕ) (found : ℕ → ℕ → A) (fail : Refusal → A) (b : List ℕ) where
-  pub seek-over : (id : ℕ) → 4096 < length b → fail (refuse 21 (length b) 4096) ≡ seek i found fail (bodyStarts id b)
+module _ {A : Type 0} (i : ℕ) (found : ℕ → ℕ → ℕ → A) (fail : Refusal → A) (b : List ℕ) where
+  pub seek-over : (id : ℕ) → 4096 < length b → fail (refuse 21 (length b) 4096) ≡ seek b i found fail (bodyStarts id b)
   unfolding bodyStarts seek
   seek-over id h = rw (lt-leb (length b) 4096 h)
 
@@ -106,44 +124,40 @@ module _ {A : Type 0} (i : ℕ) (found : ℕ → ℕ → A) (fail : Refusal → 
   under id h = rw (le-leb (length b) 4096 h)
 
   pub seek-list : {x : A} (id q : ℕ) → length b ≤ 4096 → IsList (layout id) → endOf b (headSyntax id) 0 ≡ At q
-      → x ≡ seek i found fail (starts (8 * length b) (leastBits id) (entrySyntax id) (8 * length b - q) (drop q (bitsOf b))) → x ≡ seek i found fail (bodyStarts id b)
+      → x ≡ seek b i found fail (starts (8 * length b) (leastBits id) (entrySyntax id) (8 * length b - q) (drop q (bitsOf b))) → x ≡ seek b i found fail (bodyStarts id b)
   seek-list id q h l e w = rw (under id h, headed b id q l e .starts) w
 
   pub seek-unheaded : {f g : Refusal} {r : EntryEnd} (id : ℕ) → length b ≤ 4096 → IsList (layout id) → r ≡ endOf b (headSyntax id) 0 → r ≡ Refused f → g ≡ endRefusal r
-      → fail g ≡ seek i found fail (bodyStarts id b)
+      → fail g ≡ seek b i found fail (bodyStarts id b)
   unfolding seek endRefusal
   seek-unheaded {f} {g} id h l e m w = rw (under id h, unheaded b id f l (sym e ∙ m)) (ap fail (w ∙ ap endRefusal m))
 
-  -- id 2: read or refused; ids from 5 on: one entry
-  pub seek-sole : (q : ℕ) → length b ≤ 4096 → endOf b association 0 ≡ At q → found 1 0 ≡ seek i found fail (bodyStarts 2 b)
+  -- id 2: read or refused; ids from 5 on: one entry, that ends with the body
+  at-first : (j : ℕ) → found 1 0 (8 * length b) ≡ found 1 (getD (0 ∷ []) j 0) (8 * length b - 0)
+  at-first zero = ap (found 1 0) (omega arith)
+  at-first (suc j) = ap (found 1 0) (omega arith)
+
+  pub seek-sole : (q : ℕ) → length b ≤ 4096 → endOf b association 0 ≡ At q → found 1 0 (8 * length b) ≡ seek b i found fail (bodyStarts 2 b)
   unfolding seek startsAs endOf read
   seek-sole q h e = rw (under 2 h) (go (readBody (8 * length b) 0 association (bitsOf b)) e)
     where
-      go : (x : Parse (List Field)) → made (8 * length b) (λ ts q. At q) Refused x ≡ At q → found 1 0 ≡ seek i found fail (andThen x (λ ts rest. got (0 ∷ []) []))
+      go : (x : Parse (List Field)) → made (8 * length b) (λ ts q. At q) Refused x ≡ At q → found 1 0 (8 * length b) ≡ seek b i found fail (andThen x (λ ts rest. got (0 ∷ []) []))
       go (got ts rest) z = at-first i
-        where
-          at-first : (j : ℕ) → found 1 0 ≡ found 1 (getD (0 ∷ []) j 0)
-          at-first zero = refl
-          at-first (suc j) = refl
       go (refused u v w) z = let o : _≡_ {A = ℕ} 0 1 = cc in absurd (omega arith)
 
-  pub seek-not : (f : Refusal) → length b ≤ 4096 → endOf b association 0 ≡ Refused f → fail f ≡ seek i found fail (bodyStarts 2 b)
+  pub seek-not : (f : Refusal) → length b ≤ 4096 → endOf b association 0 ≡ Refused f → fail f ≡ seek b i found fail (bodyStarts 2 b)
   unfolding seek startsAs endOf read
   seek-not f h e = rw (under 2 h) (go (readBody (8 * length b) 0 association (bitsOf b)) e)
     where
-      go : (x : Parse (List Field)) → made (8 * length b) (λ ts q. At q) Refused x ≡ Refused f → fail f ≡ seek i found fail (andThen x (λ ts rest. got (0 ∷ []) []))
+      go : (x : Parse (List Field)) → made (8 * length b) (λ ts q. At q) Refused x ≡ Refused f → fail f ≡ seek b i found fail (andThen x (λ ts rest. got (0 ∷ []) []))
       go (got ts rest) z = let o : _≡_ {A = ℕ} 0 1 = cc in absurd (omega arith)
       go (refused u v w) z = let y : refuse u v w ≡ f = cc in ap fail (sym y)
 
-  pub seek-raw : (id : ℕ) → length b ≤ 4096 → (IsList (layout id) → ⊥) → (id ≡ 2 → ⊥) → found 1 0 ≡ seek i found fail (bodyStarts id b)
+  pub seek-raw : (id : ℕ) → length b ≤ 4096 → (IsList (layout id) → ⊥) → (id ≡ 2 → ⊥) → found 1 0 (8 * length b) ≡ seek b i found fail (bodyStarts id b)
   unfolding seek startsAs
   seek-raw id h l n = rw (under id h) (go id l n)
     where
-      at-first : (j : ℕ) → found 1 0 ≡ found 1 (getD (0 ∷ []) j 0)
-      at-first zero = refl
-      at-first (suc j) = refl
-
-      go : (k : ℕ) → (IsList (layout k) → ⊥) → (k ≡ 2 → ⊥) → found 1 0 ≡ seek i found fail (startsAs (layout k) b)
+      go : (k : ℕ) → (IsList (layout k) → ⊥) → (k ≡ 2 → ⊥) → found 1 0 (8 * length b) ≡ seek b i found fail (startsAs (layout k) b)
       go zero l n = absurd (l tt)
       go (suc zero) l n = absurd (l tt)
       go (suc (suc zero)) l n = absurd (n refl)

@@ -1,4 +1,4 @@
--- Where an entry ends, by the answer of its reader; and what the layouts of lists have.
+-- What is made of a reader's answer, as where an entry ends; and what the layouts of lists have.
 -- Assumes nothing.
 use Prim.Native.Nat.{ℕ, zero, suc, _≤_}
 use mathlib.Core.Path.{_≡_, refl, sym, ap, _∙_}
@@ -7,20 +7,26 @@ use mathlib.Core.List.{List}
 use native.Mathlib.Omega.{arith}
 use Rattle.format.specs.Syntax.{Syntax, Field}
 use Rattle.format.specs.Whole.{layout}
-use Rattle.format.specs.At.{read, endOf}
+use Rattle.format.specs.At.{read}
 use Rattle.format.specs.declared.Refusal.{Refusal}
 use Rattle.format.specs.declared.EntryEnd.{EntryEnd}
 use Rattle.format.specs.declared.EntryEnd.the-variants.{At, Refused}
 use Rattle.format.proofs.Good.{Fine, Least}
 use Rattle.format.proofs.FineTables.{fine-position, least-position, fine-fragment, least-fragment, fine-beamhopping, least-beamhopping, fine-position3, least-position3}
-use Rattle.format.proofs.StartLaws.{end-of}
-use Rattle.entries.specs.Entries.{IsList, entrySyntax, leastBits, endRefusal}
+use Rattle.format.proofs.ReadLaws.{through}
+use Rattle.entries.specs.Entries.{IsList, entrySyntax, leastBits, endRefusal, walkRefusal}
+use Rattle.entries.specs.declared.Walked.{Walked}
+use Rattle.entries.specs.declared.Walked.the-variants as walked
 
--- an answer that a reader gives, of either kind; after: where it says that the entry ends
-module _ {B : Type 0} {r : B} (b : List ℕ) (s : Syntax) (p : ℕ) (ok : List Field → ℕ → B) (bad : Refusal → B) (after : B → EntryEnd)
-    (one : (ts : List Field) (q : ℕ) → after (ok ts q) ≡ At q) (two : (f : Refusal) → after (bad f) ≡ Refused f) where
-  pub ends : {x : B} {e : EntryEnd} → r ≡ read b 0 s p ok bad → r ≡ x → after x ≡ e → e ≡ endOf b s p
-  ends h m q = sym q ∙ ap after (sym m) ∙ end-of b s p ok bad after one two h
+-- an answer of a reader, of either kind; after: what is made of it
+module _ {A B : Type 0} {r : B} (b : List ℕ) (s : Syntax) (p : ℕ) (found : List Field → ℕ → A) (fail : Refusal → A) (ok : List Field → ℕ → B) (bad : Refusal → B) (after : B → A)
+    (one : (ts : List Field) (q : ℕ) → after (ok ts q) ≡ found ts q) (two : (f : Refusal) → after (bad f) ≡ fail f) where
+  pub given : {x : B} {e : A} → r ≡ read b 0 s p ok bad → r ≡ x → e ≡ after x → e ≡ read b 0 s p found fail
+  given h m q = q ∙ ap after (sym m ∙ h) ∙ through b 0 s p found fail ok bad after one two
+
+  -- pick: the refusal that is taken out of it
+  pub given-no : {f g : Refusal} (pick : B → Refusal) → ((x : Refusal) → pick (bad x) ≡ x) → r ≡ read b 0 s p ok bad → r ≡ bad f → g ≡ pick r → fail g ≡ read b 0 s p found fail
+  given-no {f} pick three h m w = ap fail (w ∙ ap pick m ∙ three f) ∙ given h m (sym (two f))
 
 -- ---- lists
 
@@ -72,3 +78,7 @@ is-list (suc (suc (suc (suc (suc i))))) h n = absurd (omega arith)
 pub told : {r : EntryEnd} {f g : Refusal} → r ≡ Refused f → g ≡ endRefusal r → r ≡ Refused g
 unfolding endRefusal
 told m w = m ∙ ap Refused (sym (w ∙ ap endRefusal m))
+
+pub walk-told : {r : Walked} {f g : Refusal} → r ≡ walked.Refused f → g ≡ walkRefusal r → r ≡ walked.Refused g
+unfolding walkRefusal
+walk-told m w = m ∙ ap walked.Refused (sym (w ∙ ap walkRefusal m))

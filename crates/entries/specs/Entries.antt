@@ -7,6 +7,7 @@ use lib.ListN.{length}
 use Rattle.format.specs.Refusals.{refuse}
 use Rattle.format.specs.Syntax.{Syntax, end}
 use Rattle.format.specs.Whole.{Layout, sole, many, opaque, layout}
+use Rattle.format.specs.At.{read}
 use Rattle.format.specs.declared.Refusal.{Refusal}
 use Rattle.format.specs.declared.EntryEnd.{EntryEnd}
 use Rattle.format.specs.declared.EntryEnd.the-variants.{At, Refused}
@@ -44,19 +45,29 @@ leastBits id = leastIn (layout id)
 abbrev pub headSyntax : ℕ → Syntax
 headSyntax id = headIn (layout id)
 
+-- where the head ends and the entries start; 0 where the head is refused
+unfoldable pub headEnd : ℕ → List ℕ → ℕ
+headEnd id b = read b 0 (headSyntax id) 0 (λ ts q. q) (λ f. 0)
+
 -- the refusal in an answer; zeros where there is none
 unfoldable pub endRefusal : EntryEnd → Refusal
 endRefusal (At n) = refuse 0 0 0
 endRefusal (Refused f) = f
 
 unfoldable pub walkRefusal : Walked → Refusal
-walkRefusal (walked.Entries n p) = refuse 0 0 0
+walkRefusal (walked.Entries n p e) = refuse 0 0 0
 walkRefusal (walked.Refused f) = f
 
--- the place that a walk hands out is one at which an entry can be read
-abbrev pub SureIn : List ℕ → Walked → Type 0
-SureIn b (walked.Entries n p) = (length b ≤ 4096) × (p ≤ 8 * length b) × (p % 8 ≡ 0)
-SureIn b (walked.Refused f) = Unit {0}
+-- what holds of a walk that began at a place q: at the place p that it hands out an entry can be read, and it ended no earlier than q
+pub record Placed (b : List ℕ) (q p e : ℕ) : Type 0 where
+  pub short : length b ≤ 4096
+  pub within : p ≤ 8 * length b
+  pub byte : p % 8 ≡ 0
+  pub on : q ≤ e
 
-pub record Sure (b : List ℕ) (r : Walked) : Type 0 where
-  pub to : SureIn b r
+abbrev pub SureIn : List ℕ → ℕ → Walked → Type 0
+SureIn b q (walked.Entries n p e) = Placed b q p e
+SureIn b q (walked.Refused f) = Unit {0}
+
+pub record Sure (b : List ℕ) (q : ℕ) (r : Walked) : Type 0 where
+  pub to : SureIn b q r

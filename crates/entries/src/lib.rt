@@ -1,4 +1,4 @@
-// Going through the entries of a body, whatever its table: how many there are, and where one of them starts.
+// Going through the entries of a body, whatever its table: how many there are, where one of them starts, and where the last one ends.
 ghost use mathlib.Core.Path.{_≡_};
 ghost use Prim.Native.Nat.{ℕ, _-_, _*_, _%_, _≤_};
 ghost use lib.ListN.{length, drop};
@@ -7,26 +7,37 @@ ghost use Rattle.format.specs.Tables.{position, fragment, beamhopping, position
 ghost use Rattle.format.specs.Whole.{layout, starts, bodyStarts};
 ghost use Rattle.format.specs.At.{endOf, seek};
 ghost use Rattle.bits.specs.Read.{Place};
-ghost use Rattle.entries.specs.Entries.{entrySyntax, leastBits, headSyntax, IsList, endRefusal, walkRefusal, Sure};
+ghost use Rattle.entries.specs.Entries.{entrySyntax, leastBits, headSyntax, headEnd, IsList, endRefusal, walkRefusal, Sure};
 ghost use Rattle.entries.specs.declared.Walked.the-variants as walked;
 use association::TimeAssociationAnswer;
+use association::association_refusal;
 use association::read_association;
 use format::EntryEnd;
 use format::Refusal;
 use fragment::CellFragmentAnswer;
+use fragment::fragment_refusal;
 use fragment::read_fragment;
 use plan::BeamhoppingAnswer;
+use plan::plan_refusal;
 use plan::read_plan;
 use position::PositionV2Answer;
+use position::position_refusal;
 use position::read_satellite;
 use position_v3::HeaderAnswer;
 use position_v3::PositionV3Answer;
+use position_v3::header_refusal;
 use position_v3::read_header;
 use position_v3::read_satellite_v3;
+use position_v3::satellite_v3_refusal;
 
-// How many entries there are, and the bit place at which the one at an index starts (0 where there is none).
+// How many entries there are, the bit place at which the one at an index starts (0 where there is none), and the one where the
+// reading ended: behind the last entry of a list, and else at the body's end.
 pub enum Walked {
-    Entries { count: usize, place: usize },
+    Entries {
+        count: usize,
+        place: usize,
+        end: usize,
+    },
     Refused(Refusal),
 }
 
@@ -36,10 +47,10 @@ fn satellite_end(s: &[u8], at: usize) -> EntryEnd
     ensures { λ r. ⌜ r ≡ endOf (now (s .entry)) position at ⌝ }
 {
     let r = read_satellite(s, at);
-    match r {
-        PositionV2Answer::Entry { satellite: _, next } => EntryEnd::At(next),
-        PositionV2Answer::Refused(f) => EntryEnd::Refused(f),
-    }
+    let PositionV2Answer::Entry { satellite: _, next } = r else {
+        return EntryEnd::Refused(position_refusal(r));
+    };
+    EntryEnd::At(next)
 }
 
 fn fragment_end(s: &[u8], at: usize) -> EntryEnd
@@ -47,10 +58,10 @@ fn fragment_end(s: &[u8], at: usize) -> EntryEnd
     ensures { λ r. ⌜ r ≡ endOf (now (s .entry)) fragment at ⌝ }
 {
     let r = read_fragment(s, at);
-    match r {
-        CellFragmentAnswer::Entry { fragment: _, next } => EntryEnd::At(next),
-        CellFragmentAnswer::Refused(f) => EntryEnd::Refused(f),
-    }
+    let CellFragmentAnswer::Entry { fragment: _, next } = r else {
+        return EntryEnd::Refused(fragment_refusal(r));
+    };
+    EntryEnd::At(next)
 }
 
 fn plan_end(s: &[u8], at: usize) -> EntryEnd
@@ -58,10 +69,10 @@ fn plan_end(s: &[u8], at: usize) -> EntryEnd
     ensures { λ r. ⌜ r ≡ endOf (now (s .entry)) beamhopping at ⌝ }
 {
     let r = read_plan(s, at);
-    match r {
-        BeamhoppingAnswer::Entry { plan: _, next } => EntryEnd::At(next),
-        BeamhoppingAnswer::Refused(f) => EntryEnd::Refused(f),
-    }
+    let BeamhoppingAnswer::Entry { plan: _, next } = r else {
+        return EntryEnd::Refused(plan_refusal(r));
+    };
+    EntryEnd::At(next)
 }
 
 fn satellite_v3_end(s: &[u8], at: usize) -> EntryEnd
@@ -70,10 +81,10 @@ fn satellite_v3_end(s: &[u8], at: usize) -> EntryEnd
 {
     let v = read_satellite_v3(s, at);
     let r = v.answer;
-    match r {
-        PositionV3Answer::Entry { satellite: _, next } => EntryEnd::At(next),
-        PositionV3Answer::Refused(f) => EntryEnd::Refused(f),
-    }
+    let PositionV3Answer::Entry { satellite: _, next } = r else {
+        return EntryEnd::Refused(satellite_v3_refusal(r));
+    };
+    EntryEnd::At(next)
 }
 
 // Where the entry of a list at a place ends.
@@ -116,10 +127,10 @@ pub fn head_end(table_id: u8, s: &[u8]) -> EntryEnd
 {
     if table_id == 4 {
         let r = read_header(s);
-        match r {
-            HeaderAnswer::Header { header: _, next } => return EntryEnd::At(next),
-            HeaderAnswer::Refused(f) => return EntryEnd::Refused(f),
-        }
+        let HeaderAnswer::Header { header: _, next } = r else {
+            return EntryEnd::Refused(header_refusal(r));
+        };
+        return EntryEnd::At(next);
     }
     EntryEnd::At(0)
 }
@@ -142,8 +153,8 @@ pub fn end_refusal(r: EntryEnd) -> Refusal
 fn seek_entries(table_id: u8, s: &[u8], start: usize, index: usize) -> Walked
     requires { ⌜ (length (now s) ≤ 4096) × (start ≤ 8 * length (now s)) × (start % 8 ≡ 0) ⌝ }
     requires { ⌜ IsList (layout «table_id») ⌝ }
-    ensures { λ r. ⌜ r ≡ seek index walked.Entries walked.Refused (starts (8 * length (now (s .entry))) (leastBits «table_id») (entrySyntax «table_id») (8 * length (now (s .entry)) - start) (drop start (bitsOf (now (s .entry))))) ⌝ }
-    ensures { λ r. ⌜ Sure (now (s .entry)) r ⌝ }
+    ensures { λ r. ⌜ r ≡ seek (now (s .entry)) index walked.Entries walked.Refused (starts (8 * length (now (s .entry))) (leastBits «table_id») (entrySyntax «table_id») (8 * length (now (s .entry)) - start) (drop start (bitsOf (now (s .entry))))) ⌝ }
+    ensures { λ r. ⌜ Sure (now (s .entry)) start r ⌝ }
 {
     let all = 8 * s.len();
     let least = least_bits(table_id);
@@ -161,33 +172,47 @@ fn seek_entries(table_id: u8, s: &[u8], start: usize, index: usize) -> Walked
         at = next;
         count += 1;
     }
-    Walked::Entries { count, place }
+    Walked::Entries {
+        count,
+        place,
+        end: at,
+    }
 }
 
 // The one entry of a body that is no list.
 fn sole_entry(table_id: u8, s: &[u8]) -> Walked
     requires { ⌜ length (now s) ≤ 4096 ⌝ }
     requires { ⌜ (IsList (layout «table_id») → ⊥) ⌝ }
-    ensures { λ r. ⌜ ((i : ℕ) → r ≡ seek i walked.Entries walked.Refused (bodyStarts «table_id» (now (s .entry)))) ⌝ }
-    ensures { λ r. ⌜ Sure (now (s .entry)) r ⌝ }
+    ensures { λ r. ⌜ ((i : ℕ) → r ≡ seek (now (s .entry)) i walked.Entries walked.Refused (bodyStarts «table_id» (now (s .entry)))) ⌝ }
+    ensures { λ r. ⌜ Sure (now (s .entry)) 0 r ⌝ }
 {
-    if table_id == 2 {
-        let r = read_association(s);
-        match r {
-            TimeAssociationAnswer::Entry {
-                association: _,
-                next: _,
-            } => return Walked::Entries { count: 1, place: 0 },
-            TimeAssociationAnswer::Refused(f) => return Walked::Refused(f),
-        }
+    let end = 8 * s.len();
+    if table_id != 2 {
+        return Walked::Entries {
+            count: 1,
+            place: 0,
+            end,
+        };
     }
-    Walked::Entries { count: 1, place: 0 }
+    let r = read_association(s);
+    let TimeAssociationAnswer::Entry {
+        association: _,
+        next: _,
+    } = r
+    else {
+        return Walked::Refused(association_refusal(r));
+    };
+    Walked::Entries {
+        count: 1,
+        place: 0,
+        end,
+    }
 }
 
-// The entries of a body: their number, and the place of the one at an index; or the body's refusal.
+// The entries of a body: their number, the place of the one at an index, and the place where the reading ended; or the body's refusal.
 pub fn walk_body(table_id: u8, s: &[u8], index: usize) -> Walked
-    ensures { λ r. ⌜ r ≡ seek index walked.Entries walked.Refused (bodyStarts «table_id» (now (s .entry))) ⌝ }
-    ensures { λ r. ⌜ Sure (now (s .entry)) r ⌝ }
+    ensures { λ r. ⌜ r ≡ seek (now (s .entry)) index walked.Entries walked.Refused (bodyStarts «table_id» (now (s .entry))) ⌝ }
+    ensures { λ r. ⌜ Sure (now (s .entry)) (headEnd «table_id» (now (s .entry))) r ⌝ }
 {
     if 4096 < s.len() {
         return Walked::Refused(Refusal {
@@ -214,7 +239,11 @@ pub fn walk_refusal(r: Walked) -> Refusal
     ensures { λ f. ⌜ f ≡ walkRefusal r ⌝ }
 {
     match r {
-        Walked::Entries { count: _, place: _ } => Refusal {
+        Walked::Entries {
+            count: _,
+            place: _,
+            end: _,
+        } => Refusal {
             number: 0,
             need: 0,
             have: 0,

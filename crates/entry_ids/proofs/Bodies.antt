@@ -35,25 +35,25 @@ module _ (id : ℕ) (b : List ℕ) where
   -- ---- what a walk over the entries' places says of the reading
 
   -- it is refused as the reading is
-  refused-alike : {g : Refusal} (i : ℕ) → walked.Refused g ≡ seek i walked.Entries walked.Refused (bodyStarts id b) → bodyRead id b ≡ refused (g .number) (g .need) (g .have)
+  refused-alike : {g : Refusal} (i : ℕ) → walked.Refused g ≡ seek b i walked.Entries walked.Refused (bodyStarts id b) → bodyRead id b ≡ refused (g .number) (g .need) (g .have)
   unfolding seek
   refused-alike {g} i z = go (bodyRead id b) (bodyStarts id b) (starts-agree id b) z
     where
-      go : (p : Parse Table) (q : Parse (List ℕ)) → Agree p q → walked.Refused g ≡ seek i walked.Entries walked.Refused q → p ≡ refused (g .number) (g .need) (g .have)
+      go : (p : Parse Table) (q : Parse (List ℕ)) → Agree p q → walked.Refused g ≡ seek b i walked.Entries walked.Refused q → p ≡ refused (g .number) (g .need) (g .have)
       go (got t r) (got ps s) (counted e) z = let o : _≡_ {A = ℕ} 0 1 = cc in absurd (omega arith)
       go (refused u v w) (refused u′ v′ w′) refuses z = let y : g ≡ refuse u v w = cc in rw y
 
-  pub gathered-no : {g : Refusal} (i : ℕ) (kept : List ℕ) → walked.Refused g ≡ seek i walked.Entries walked.Refused (bodyStarts id b)
+  pub gathered-no : {g : Refusal} (i : ℕ) (kept : List ℕ) → walked.Refused g ≡ seek b i walked.Entries walked.Refused (bodyStarts id b)
       → Gathered (idsOf id (bodyRead id b)) (ids.Refused g) kept
   unfolding idsOf
   gathered-no i kept z = rw (refused-alike i z) (record { to = refl })
 
   -- it is accepted as the reading is
-  accepted-alike : {c p : ℕ} (i : ℕ) → walked.Entries c p ≡ seek i walked.Entries walked.Refused (bodyStarts id b) → (t : Table) × (r : List ℕ) × (bodyRead id b ≡ got t r)
+  accepted-alike : {c p e : ℕ} (i : ℕ) → walked.Entries c p e ≡ seek b i walked.Entries walked.Refused (bodyStarts id b) → (t : Table) × (r : List ℕ) × (bodyRead id b ≡ got t r)
   unfolding seek
-  accepted-alike {c} {p} i z = go (bodyRead id b) (bodyStarts id b) (starts-agree id b) z
+  accepted-alike {c} {p} {e} i z = go (bodyRead id b) (bodyStarts id b) (starts-agree id b) z
     where
-      go : (x : Parse Table) (q : Parse (List ℕ)) → Agree x q → walked.Entries c p ≡ seek i walked.Entries walked.Refused q → (t : Table) × (r : List ℕ) × (x ≡ got t r)
+      go : (x : Parse Table) (q : Parse (List ℕ)) → Agree x q → walked.Entries c p e ≡ seek b i walked.Entries walked.Refused q → (t : Table) × (r : List ℕ) × (x ≡ got t r)
       go (got t r) (got ps s) (counted e) z = (t, r, refl)
       go (refused u v w) (refused u′ v′ w′) refuses z = let o : _≡_ {A = ℕ} 0 1 = cc in absurd (omega arith)
 
@@ -75,7 +75,7 @@ module _ (id : ℕ) (b : List ℕ) where
       go (suc (suc (suc (suc zero)))) h e = absurd (let z = h (omega arith) in omega arith)
       go (suc (suc (suc (suc (suc k))))) h e = let z : asIs b ≡ t = cc in ap entriesOf (sym z)
 
-  pub gathered-none : {c p : ℕ} (i : ℕ) (kept : List ℕ) → (id ≤ 4 → id ≡ 2) → walked.Entries c p ≡ seek i walked.Entries walked.Refused (bodyStarts id b)
+  pub gathered-none : {c p e : ℕ} (i : ℕ) (kept : List ℕ) → (id ≤ 4 → id ≡ 2) → walked.Entries c p e ≡ seek b i walked.Entries walked.Refused (bodyStarts id b)
       → Gathered (idsOf id (bodyRead id b)) (ids.Ids 0) kept
   unfolding idsOf entryIds joinAll
   gathered-none i kept h z =

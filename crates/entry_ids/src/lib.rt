@@ -15,6 +15,7 @@ use entries::entry_end;
 use entries::head_end;
 use entries::least_bits;
 use entries::walk_body;
+use entries::walk_refusal;
 use format::EntryEnd;
 use format::Refusal;
 
@@ -95,10 +96,15 @@ fn no_ids(table_id: u8, s: &[u8]) -> IdsAnswer
     ensures { λ r. ⌜ ((ids : List ℕ) → Gathered (idsOf «table_id» (bodyRead «table_id» (now (s .entry)))) r ids) ⌝ }
 {
     let r = walk_body(table_id, s, 0);
-    match r {
-        Walked::Entries { count: _, place: _ } => IdsAnswer::Ids(0),
-        Walked::Refused(f) => IdsAnswer::Refused(f),
-    }
+    let Walked::Entries {
+        count: _,
+        place: _,
+        end: _,
+    } = r
+    else {
+        return IdsAnswer::Refused(walk_refusal(r));
+    };
+    IdsAnswer::Ids(0)
 }
 
 // The different ids of a body's entries.

@@ -1,16 +1,22 @@
-// The ledger's writer and reader, for C. The call that fills a buffer returns 0 or the refusal's number; the further calls take
-// the same bytes and the buffer's length, write nothing, and give the answer's other numbers, 0 where there is none.
+// The ledger's writer and reader and the plain body, for C. The call that fills a buffer returns 0 or the refusal's number; the further
+// calls take the same bytes and the buffer's length, write nothing, and give the answer's other numbers, 0 where there is none.
 ghost use mathlib.Core.Path.{_≡_};
 ghost use lib.ListN.{length};
 ghost use Rattle.format.specs.Calls.{numberOf, needOf, haveOf, tableIdOf, lengthOf, writeAnswer, writeLeft, readAnswer, readLeft};
+ghost use Rattle.plain_body.specs.Plain.{plainAnswer, plainLeft};
+ghost use Rattle.ledger.specs.Sizes.{Fitted, MeasureFitted};
 use format::Answer;
 use format::Refusal;
 use ledger_reader::Measure;
 use ledger_reader::ledger_measure;
 use ledger_reader::ledger_read;
+use ledger_reader::measure_refusal;
 use ledger_writer::LedgerSize;
 use ledger_writer::ledger_size;
 use ledger_writer::ledger_write;
+use ledger_writer::size_refusal;
+use plain_body::plain_body;
+use plain_body::plain_measure;
 
 // The refusal's number, or 0.
 fn number_of(answer: Answer) -> u32
@@ -77,51 +83,62 @@ fn length_of(answer: Answer) -> usize
     }
 }
 
+// The answer to a result of so many bytes in a buffer of so many: 22 where it is longer.
+fn fitted(table_id: u8, size: usize, room: usize) -> Answer
+    ensures { λ r. ⌜ Fitted «table_id» size room r ⌝ }
+{
+    if room < size {
+        return Answer::Refused(Refusal {
+            number: 22,
+            need: size,
+            have: room,
+        });
+    }
+    Answer::Done {
+        table_id,
+        length: size,
+    }
+}
+
+// The answer to a plain body of this measure in a buffer of so many bytes.
+fn measure_answer(measure: Measure, room: usize) -> Answer
+    ensures { λ r. ⌜ MeasureFitted measure room r ⌝ }
+{
+    let Measure::Size {
+        table_id,
+        length: size,
+    } = measure
+    else {
+        return Answer::Refused(measure_refusal(measure));
+    };
+    fitted(table_id, size, room)
+}
+
 // What the writer answers with a buffer of so many bytes.
 fn write_answer(table_id: u8, body: &[u8], room: usize) -> Answer
     ensures { λ r. ⌜ r ≡ writeAnswer «table_id» (now (body .entry)) room ⌝ }
 {
-    match ledger_size(table_id, body) {
-        LedgerSize::Refused(f) => Answer::Refused(f),
-        LedgerSize::Size(size) => {
-            if room < size {
-                return Answer::Refused(Refusal {
-                    number: 22,
-                    need: size,
-                    have: room,
-                });
-            }
-            Answer::Done {
-                table_id,
-                length: size,
-            }
-        }
-    }
+    let size = ledger_size(table_id, body);
+    let LedgerSize::Size(n) = size else {
+        return Answer::Refused(size_refusal(size));
+    };
+    fitted(table_id, n, room)
 }
 
 // What the reader answers with a buffer of so many bytes.
 fn read_answer(ledger: &[u8], room: usize) -> Answer
     ensures { λ r. ⌜ r ≡ readAnswer (now (ledger .entry)) room ⌝ }
 {
-    match ledger_measure(ledger) {
-        Measure::Refused(f) => Answer::Refused(f),
-        Measure::Size {
-            table_id,
-            length: size,
-        } => {
-            if room < size {
-                return Answer::Refused(Refusal {
-                    number: 22,
-                    need: size,
-                    have: room,
-                });
-            }
-            Answer::Done {
-                table_id,
-                length: size,
-            }
-        }
-    }
+    let measure = ledger_measure(ledger);
+    measure_answer(measure, room)
+}
+
+// What the call for a body's plain body answers with a buffer of so many bytes.
+fn plain_answer(table_id: u8, body: &[u8], room: usize) -> Answer
+    ensures { λ r. ⌜ r ≡ plainAnswer «table_id» (now (body .entry)) room ⌝ }
+{
+    let measure = plain_measure(table_id, body);
+    measure_answer(measure, room)
 }
 
 // The ledger of a body, at the buffer's start; after a refusal the buffer is as it was.
@@ -211,5 +228,50 @@ pub extern "C" fn sat_ledger_read_length(ledger: &[u8], out_len: usize) -> usize
     ensures { λ r. ⌜ r ≡ lengthOf (readAnswer (now (ledger .entry)) «out_len») ⌝ }
 {
     let answer = read_answer(ledger, out_len);
+    length_of(answer)
+}
+
+// The plain body of a body, at the buffer's start; after a refusal the buffer is as it was.
+#[no_mangle]
+pub extern "C" fn sat_plain_body(table_id: u8, body: &[u8], out: &mut [u8]) -> u32
+    ensures { λ r. ⌜ (r ≡ numberOf (plainAnswer «table_id» (now (body .entry)) (length (now (out .entry))))) × (now (out .exit) ≡ plainLeft «table_id» (now (body .entry)) (now (out .entry))) ⌝ }
+{
+    let answer = plain_body(table_id, body, out);
+    number_of(answer)
+}
+
+// The first value of the refusal of the call above.
+#[no_mangle]
+pub extern "C" fn sat_plain_body_need(table_id: u8, body: &[u8], out_len: usize) -> usize
+    ensures { λ r. ⌜ r ≡ needOf (plainAnswer «table_id» (now (body .entry)) «out_len») ⌝ }
+{
+    let answer = plain_answer(table_id, body, out_len);
+    need_of(answer)
+}
+
+// The second value of that refusal.
+#[no_mangle]
+pub extern "C" fn sat_plain_body_have(table_id: u8, body: &[u8], out_len: usize) -> usize
+    ensures { λ r. ⌜ r ≡ haveOf (plainAnswer «table_id» (now (body .entry)) «out_len») ⌝ }
+{
+    let answer = plain_answer(table_id, body, out_len);
+    have_of(answer)
+}
+
+// The table id of the plain body that is left.
+#[no_mangle]
+pub extern "C" fn sat_plain_body_table_id(table_id: u8, body: &[u8], out_len: usize) -> u8
+    ensures { λ r. ⌜ r ≡ tableIdOf (plainAnswer «table_id» (now (body .entry)) «out_len») ⌝ }
+{
+    let answer = plain_answer(table_id, body, out_len);
+    table_id_of(answer)
+}
+
+// The length of the plain body that is left.
+#[no_mangle]
+pub extern "C" fn sat_plain_body_length(table_id: u8, body: &[u8], out_len: usize) -> usize
+    ensures { λ r. ⌜ r ≡ lengthOf (plainAnswer «table_id» (now (body .entry)) «out_len») ⌝ }
+{
+    let answer = plain_answer(table_id, body, out_len);
     length_of(answer)
 }

@@ -1,14 +1,16 @@
 -- Entries of a ledger laid one after the other: the turns of `read_entries`, and the count in front of them.
 -- Assumes nothing.
-use Prim.Native.Nat.{ℕ, suc, _+_, _-_, _*_, _≤_, _<_}
+use Prim.Native.Nat.{ℕ, suc, _+_, _-_, _*_, _%_, _≤_, _<_}
 use mathlib.Core.Path.{_≡_, refl, sym, ap, _∙_, subst}
+use mathlib.Core.Bool.{false}
 use mathlib.Core.List.{List, [], _∷_, _++_, append-assoc, append-nil}
 use native.Mathlib.Nat.{sub-zero}
 use native.Mathlib.Omega.{arith}
 use lib.ListN.{length, take, drop, length-append, length-drop}
 use lib.Seq.{drop-drop}
 use borrow.Author.Tests.{le-leb, lt-leb}
-use Rattle.format.specs.Digits.{value, bitsOf, splice}
+use borrow.Rule.Slice.PartMut.{midOf, putMid, same-len-mid}
+use Rattle.format.specs.Digits.{Below, value, bitsOf, splice}
 use Rattle.format.specs.Refusals.{refuse}
 use Rattle.format.specs.Syntax.{Syntax, Field, Parse, got, refused, andThen, push}
 use Rattle.format.specs.Body.{plain}
@@ -16,10 +18,13 @@ use Rattle.format.specs.Ledger.{readLedger}
 use Rattle.format.specs.Whole.{plains, counted}
 use Rattle.format.specs.declared.Refusal.{Refusal}
 use Rattle.format.proofs.DigitLaws.{length-bits}
+use Rattle.format.proofs.Good.{Fine}
 use Rattle.bits.proofs.Splices.{splice-splice, splice-nil}
 use Rattle.runs.specs.declared.Step.{Step}
 use Rattle.runs.specs.declared.Step.the-variants.{Done, Refused}
 use Rattle.read_runs.specs.Came.{LedgerPlaced, Halted}
+use Rattle.read_runs.proofs.Lent.{Starts, lent-bits}
+use Rattle.read_runs.proofs.Moved.{read-whole}
 use Rattle.read_plans.specs.Taken.{Took, TakenTo, Taken}
 use Rattle.ledger_reader.specs.Held.{listing, Held, Refuses, HoldsTo, Holds}
 
@@ -45,6 +50,25 @@ module _ {A : Type 0} {f : A → List ℕ} {l : List ℕ} {p : Parse A} {at : �
   -- the same reading in other words
   pub holds-as : {p₁ : Parse A} → p ≡ p₁ → Holds f l p₁ at out out′ r → Holds f l p at out out′ r
   holds-as e x = subst (λ (p : Parse A). Holds f l p at out out′ r) (sym e) x
+
+-- ---- one entry, in a part of the buffer that is lent
+
+-- an entry is whole bytes
+pub took-whole : {l out out′ : List ℕ} {s : Syntax} {place p at a : ℕ} → Fine false 0 0 s → Below 256 l → at % 8 ≡ 0 → Took l s place at out p a out′ → a % 8 ≡ 0
+took-whole {l} {s = s} {place} f b h w = omega (arith, w .size, read-whole l s place f b (w .reads))
+
+pub lent-took : {l part : List ℕ} {s : Syntax} {place p size : ℕ} (out : List ℕ) (from here : ℕ) → Starts from here out → here % 8 ≡ 0
+    → Took l s place 0 (midOf from (length out - from) out) p size part → Took l s place here out p (here + size) (putMid from (length out - from) out part)
+lent-took {part = part} {size = size} out from here h a w =
+    record {
+      ts = w .ts;
+      reads = w .reads;
+      size = omega (arith, w .size);
+      bits = lent-bits out from here h a part (plain (w .ts)) size (omega (arith, w .size)) (w .long) (w .bits);
+      long = same-len-mid from (length out - from) out part (w .long);
+      within = w .within;
+      slack = omega (arith, w .slack);
+    }
 
 -- ---- entries
 
@@ -85,9 +109,10 @@ pub record Counting (l : List ℕ) (s : Syntax) (place count at : ℕ) (out₀ :
   pub bits : here ≤ 8 * length out₀ → bitsOf out ≡ splice (bitsOf out₀) at (plains es)
   pub long : length out ≡ length out₀
   pub placed : LedgerPlaced l there (here + 8)
+  pub aligned : here % 8 ≡ 0
 
-pub begin : {l out : List ℕ} {s : Syntax} {place at : ℕ} (count : ℕ) → LedgerPlaced l place (at + 8) → Counting l s place count at out place at 0 out
-begin {l} {out} {s} {place} {at} count p =
+pub begin : {l out : List ℕ} {s : Syntax} {place at : ℕ} (count : ℕ) → LedgerPlaced l place (at + 8) → at % 8 ≡ 0 → Counting l s place count at out place at 0 out
+begin {l} {out} {s} {place} {at} count p h =
     record {
       es = [];
       walked = rw (sub-zero count) (behind-none (counted (length l) s count (drop place l)));
@@ -95,14 +120,15 @@ begin {l} {out} {s} {place} {at} count p =
       bits = λ _. sym (rw plains-nil (splice-nil (bitsOf out) at));
       long = refl;
       placed = p;
+      aligned = h;
     }
 
 module _ {l out₀ out : List ℕ} {s : Syntax} {place count at there here i : ℕ} (st : Counting l s place count at out₀ there here i out) where
   one-more : i < count → count - i ≡ suc (count - (i + 1))
   one-more h = omega arith
 
-  pub turn : {out′ : List ℕ} {a p : ℕ} → i < count → Took l s there here out p a out′ → Counting l s place count at out₀ p a (i + 1) out′
-  turn {out′} {a} {p} h w =
+  pub turn : {out′ : List ℕ} {a p : ℕ} → i < count → Took l s there here out p a out′ → a % 8 ≡ 0 → Counting l s place count at out₀ p a (i + 1) out′
+  turn {out′} {a} {p} h w m =
       let es = st .es in
       let n = ap length (plains-more es (w .ts)) ∙ length-append (plains es) (plain (w .ts)) in
       let z = w .size in
@@ -115,6 +141,7 @@ module _ {l out₀ out : List ℕ} {s : Syntax} {place count at there here i : �
             ∙ splice-splice (bitsOf out₀) at (plains es) (plain (w .ts)) here (st .size) (omega (arith, length-bits out₀)) ∙ ap (splice (bitsOf out₀) at) (sym (plains-more es (w .ts)));
         long = w .long ∙ st .long;
         placed = record { short = st .placed .short; within = w .within; behind = omega (arith, st .placed .behind, w .slack) };
+        aligned = m;
       }
 
   pub stop : {f : Refusal} → i < count → Halted l s there f → Refuses (counted (length l) s count (drop place l)) f

@@ -17,14 +17,18 @@ use Rattle.format.specs.Ledger.{readLedger, grant}
 use Rattle.format.specs.Whole.{Layout, sole, many, opaque, layout, one, list, asIs, plains, ended, contentAs}
 use Rattle.format.specs.declared.Refusal.{Refusal}
 use Rattle.format.proofs.DigitLaws.{length-bits}
+use Rattle.format.proofs.Good.{Fine}
+use Rattle.format.proofs.TableLaws.{fine-layout}
 use Rattle.bits.proofs.Splices.{splice-splice, splice-nil}
 use Rattle.bits.proofs.Groups.{bits-splice}
+use Rattle.runs.specs.Steps.{stored}
 use Rattle.runs.specs.declared.Step.{Step}
 use Rattle.runs.specs.declared.Step.the-variants.{Done, Refused}
+use Rattle.runs.proofs.Stores.{stored-fits}
 use Rattle.read_runs.specs.Came.{Halted}
 use Rattle.read_runs.proofs.CameLaws.{plain-nil}
 use Rattle.read_plans.specs.Taken.{Took, Taken}
-use Rattle.ledger_reader.specs.Held.{entryOf, listing, fieldsAs, bitsIn, Held, Refuses, Holds}
+use Rattle.ledger_reader.specs.Held.{Listed, entryOf, listing, fieldsAs, bitsIn, Held, Refuses, Holds}
 
 -- ---- layouts by their ids
 
@@ -35,6 +39,15 @@ opaque-from (suc (suc zero)) h = absurd (omega arith)
 opaque-from (suc (suc (suc zero))) h = absurd (omega arith)
 opaque-from (suc (suc (suc (suc zero)))) h = absurd (omega arith)
 opaque-from (suc (suc (suc (suc (suc n))))) h = refl
+
+-- the entries of a list are as the laws ask for
+pub fine-entry : (id : ℕ) → Listed id → Fine false 0 0 (entryOf id)
+fine-entry zero h = fine-layout 0 .1
+fine-entry (suc zero) h = fine-layout 1 .1
+fine-entry (suc (suc zero)) h = absurd (h .several refl)
+fine-entry (suc (suc (suc zero))) h = fine-layout 3 .1
+fine-entry (suc (suc (suc (suc zero)))) h = fine-layout 4 .1
+fine-entry (suc (suc (suc (suc (suc n))))) h = absurd (omega (arith, h .known))
 
 -- a list without a head
 pub headless : (id : ℕ) → id < 4 → (id ≡ 2 → ⊥) → (m : ℕ) × (layout id ≡ many end m (entryOf id))
@@ -55,7 +68,7 @@ module _ {l out out′ : List ℕ} where
   sole-holds {r = Refused f} x = record { to = record { reads = rw (x .to .reads) } }
 
   -- raw bytes
-  pub opaque-holds : 4 ≤ length l → (length l - 4 ≤ length out → out′ ≡ splice out 0 (drop 4 l))
+  pub opaque-holds : 4 ≤ length l → out′ ≡ stored out 0 (drop 4 l)
       → Held bitsIn l (fieldsAs (length l) opaque (drop 4 l)) 0 out (length l) (8 * (length l - 4)) out′
   opaque-holds h b =
       let n = length-bits (drop 4 l) in
@@ -63,7 +76,7 @@ module _ {l out out′ : List ℕ} where
         what = asIs (drop 4 l);
         reads = ap (got (asIs (drop 4 l))) (sym (drop-length l));
         size = omega (arith, length-drop 4 l);
-        bits = λ r. ap bitsOf (b (omega arith)) ∙ bits-splice out 0 (drop 4 l);
+        bits = λ r. ap bitsOf (b ∙ stored-fits out 0 (drop 4 l) (omega (arith, length-drop 4 l))) ∙ bits-splice out 0 (drop 4 l);
         within = omega arith;
       }
 

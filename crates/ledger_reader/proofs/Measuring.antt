@@ -1,6 +1,6 @@
 -- What a ledger's measure is, test by test.
 -- Assumes nothing.
-use Prim.Native.Nat.{ℕ, suc, _-_, _/_, _^_, _≤_, _<_}
+use Prim.Native.Nat.{ℕ, _-_, _/_, _^_, _≤_, _<_}
 use mathlib.Core.Path.{_≡_, refl, ap, _∙_}
 use mathlib.Core.List.{List, [], _∷_, _++_}
 use native.Mathlib.Omega.{arith}
@@ -24,11 +24,6 @@ use Rattle.runs.specs.declared.Step.the-variants as step
 use Rattle.ledger_reader.specs.Held.{Framed, bitsIn, Held, Refuses}
 use Rattle.ledger_reader.specs.Measured.{measureOf}
 use Rattle.ledger_reader.specs.declared.Measure.the-variants.{Size, Refused}
-
--- the elements of a byte slice are bytes
-pub below-of : (s : List ℕ) → ((i : ℕ) → getD s i 0 < 256) → Below 256 s
-below-of [] h = tt
-below-of (x ∷ s) h = (h 0, below-of s (λ i. h (suc i)))
 
 -- a good table's bits are whole bytes, those of its plain body
 pub plain-bits : {k : Layout} {t : Table} → FineLayout k → GoodTable k t → bitsOf (plainOf t) ≡ bitsIn t

@@ -23,7 +23,7 @@ use Rattle.bits.proofs.Splices.{length-splice}
 use Rattle.runs.specs.declared.Step.{Step}
 use Rattle.runs.specs.declared.Step.the-variants as step
 use Rattle.ledger_reader.specs.Held.{Framed, bitsIn, Holds}
-use Rattle.ledger_reader.specs.Measured.{measured, measureOf}
+use Rattle.ledger_reader.specs.Measured.{measured, measureOf, measureRefusal}
 use Rattle.ledger_reader.specs.declared.Measure.{Measure}
 use Rattle.ledger_reader.specs.declared.Measure.the-variants as measure
 use Rattle.ledger_reader.proofs.Measuring.{plain-bits}
@@ -90,9 +90,9 @@ module _ {l : List ℕ} {id n : ℕ} (x : Sized l id n) (b : Below 256 l) where
 abbrev pub Says : List ℕ → List ℕ → Answer → List ℕ → Type 0
 Says l out r out′ = (r ≡ readAnswer l (length out)) × (out′ ≡ readLeft l out)
 
-pub says-no : {m : Measure} {g : Refusal} (l out : List ℕ) → m ≡ measure.Refused g → m ≡ measureOf l → Says l out (Refused g) out
-unfolding measureOf restored readAnswer readLeft answer left
-says-no {m} {g} l out q e = go (ledgerRead l) (sym q ∙ e)
+pub says-no : {m : Measure} {f g : Refusal} (l out : List ℕ) → m ≡ measure.Refused g → m ≡ measureOf l → f ≡ measureRefusal m → Says l out (Refused f) out
+unfolding measureOf measureRefusal restored readAnswer readLeft answer left
+says-no {m} {f} {g} l out q e z = rw (z ∙ ap measureRefusal q) (go (ledgerRead l) (sym q ∙ e))
   where
     go : (p : Parse Table) → measure.Refused g ≡ measured (idOf l) (andThen p (λ t rest. got (plainOf t) []))
         → (Refused g ≡ answer (idOf l) (length out) (andThen p (λ t rest. got (plainOf t) []))) × (out ≡ left out (andThen p (λ t rest. got (plainOf t) [])))

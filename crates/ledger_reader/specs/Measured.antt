@@ -7,6 +7,7 @@ use Rattle.format.specs.Refusals.{refuse}
 use Rattle.format.specs.Syntax.{Parse, got, refused}
 use Rattle.format.specs.Whole.{idOf}
 use Rattle.format.specs.Calls.{restored}
+use Rattle.format.specs.declared.Refusal.{Refusal}
 use Rattle.ledger_reader.specs.declared.Measure.{Measure}
 use Rattle.ledger_reader.specs.declared.Measure.the-variants.{Size, Refused}
 
@@ -17,3 +18,8 @@ measured id (refused number needed had) = Refused (refuse number needed had)
 -- the table id that a ledger names and the length of its plain body, or the ledger's refusal
 unfoldable pub measureOf : List ℕ → Measure
 measureOf l = measured (idOf l) (restored l)
+
+-- the refusal in a measure; zeros where there is none
+unfoldable pub measureRefusal : Measure → Refusal
+measureRefusal (Size id n) = refuse 0 0 0
+measureRefusal (Refused f) = f

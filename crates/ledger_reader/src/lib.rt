@@ -1,22 +1,23 @@
 // The ledger reader: a ledger gone through from its first byte to its last, and laid as the plain body that it stands for.
 // The same steps measure: with an empty buffer nothing is stored, and the answer is the same.
 ghost use mathlib.Core.Path.{_≡_};
-ghost use Prim.Native.Nat.{_+_, _-_, _≤_, _<_};
+ghost use Prim.Native.Nat.{_+_, _%_, _≤_};
 ghost use lib.ListN.{length, drop};
-ghost use Rattle.format.specs.Digits.{splice};
 ghost use Rattle.format.specs.Refusals.{refuse};
 ghost use Rattle.format.specs.Whole.{layout, plains, counted, contentAs};
 ghost use Rattle.format.specs.Calls.{readAnswer, readLeft};
+ghost use Rattle.runs.specs.Steps.{stored};
 ghost use Rattle.read_runs.specs.Came.{LedgerPlaced};
 ghost use Rattle.read_plans.specs.Taken.{Taken};
 ghost use Rattle.ledger_reader.specs.Held.{entryOf, listing, fieldsAs, bitsIn, Listed, Framed, Holds};
-ghost use Rattle.ledger_reader.specs.Measured.{measureOf};
+ghost use Rattle.ledger_reader.specs.Measured.{measureOf, measureRefusal};
 use bits::get_be;
 use format::Answer;
 use format::Refusal;
 use read_ephemeris::read_header;
 use read_ephemeris::read_position3;
 use read_plans::read_plan;
+use read_runs::byte_of;
 use read_tables::read_association;
 use read_tables::read_fragment;
 use read_tables::read_position;
@@ -35,25 +36,25 @@ fn refused_at(number: u8, place: usize) -> Refusal
     }
 }
 
-// One entry of a list.
-fn read_entry(table_id: u8, ledger: &[u8], place: usize, out: &mut [u8], at: usize) -> Step
-    requires { ⌜ LedgerPlaced (now ledger) place (at + 8) ⌝ }
+// One entry of a list, laid from the buffer's start on.
+fn read_entry(table_id: u8, ledger: &[u8], place: usize, out: &mut [u8]) -> Step
+    requires { ⌜ LedgerPlaced (now ledger) place 8 ⌝ }
     requires { ⌜ Listed «table_id» ⌝ }
-    ensures { λ r. ⌜ Taken (now (ledger .entry)) (entryOf «table_id») place at (now (out .entry)) (now (out .exit)) r ⌝ }
+    ensures { λ r. ⌜ Taken (now (ledger .entry)) (entryOf «table_id») place 0 (now (out .entry)) (now (out .exit)) r ⌝ }
 {
     if table_id == 0 {
-        return read_position(ledger, place, out, at);
+        return read_position(ledger, place, out, 0);
     }
     if table_id == 1 {
-        return read_fragment(ledger, place, out, at);
+        return read_fragment(ledger, place, out, 0);
     }
     if table_id == 3 {
-        return read_plan(ledger, place, out, at);
+        return read_plan(ledger, place, out, 0);
     }
-    read_position3(ledger, place, out, at)
+    read_position3(ledger, place, out, 0)
 }
 
-// So many entries from a place on, up to the first that is refused.
+// So many entries from a place on, up to the first that is refused. Each is laid in the part of the buffer that starts where the last one ended.
 fn read_entries(
     table_id: u8,
     ledger: &[u8],
@@ -63,6 +64,7 @@ fn read_entries(
     at: usize,
 ) -> Step
     requires { ⌜ LedgerPlaced (now ledger) place (at + 8) ⌝ }
+    requires { ⌜ at % 8 ≡ 0 ⌝ }
     requires { ⌜ Listed «table_id» ⌝ }
     ensures { λ r. ⌜ Holds plains (now (ledger .entry)) (counted (length (now (ledger .entry))) (entryOf «table_id») count (drop place (now (ledger .entry)))) at (now (out .entry)) (now (out .exit)) r ⌝ }
 {
@@ -70,16 +72,17 @@ fn read_entries(
     let mut there = place;
     let mut i: u64 = 0;
     while i < count {
-        let entry = read_entry(table_id, ledger, there, out, here);
+        let from = byte_of(here, out.len());
+        let entry = read_entry(table_id, ledger, there, &mut out[from..]);
         let Step::Done {
-            at: a,
+            at: bits,
             place: p,
             last: _,
         } = entry
         else {
             return entry;
         };
-        here = a;
+        here += bits;
         there = p;
         i += 1;
     }
@@ -93,6 +96,7 @@ fn read_entries(
 // The entries behind their 2-byte count.
 fn read_list(table_id: u8, ledger: &[u8], place: usize, out: &mut [u8], at: usize) -> Step
     requires { ⌜ LedgerPlaced (now ledger) place (at + 8) ⌝ }
+    requires { ⌜ at % 8 ≡ 0 ⌝ }
     requires { ⌜ Listed «table_id» ⌝ }
     ensures { λ r. ⌜ Holds plains (now (ledger .entry)) (listing (length (now (ledger .entry))) (entryOf «table_id») (drop place (now (ledger .entry)))) at (now (out .entry)) (now (out .exit)) r ⌝ }
 {
@@ -103,10 +107,11 @@ fn read_list(table_id: u8, ledger: &[u8], place: usize, out: &mut [u8], at: usiz
     read_entries(table_id, ledger, place + 2, count, out, at)
 }
 
-// Ids 5 to 255: the bytes behind the table id are the body. They are stored where there is room for all of them.
+// Ids 5 to 255: the bytes behind the table id are the body. They are stored where there is room for all of them,
+// and else the buffer stays as it is.
 fn copy_opaque(ledger: &[u8], out: &mut [u8])
     requires { ⌜ 4 ≤ length (now ledger) ⌝ }
-    ensures { λ _. ⌜ (length (now (ledger .entry)) - 4 ≤ length (now (out .entry)) → now (out .exit) ≡ splice (now (out .entry)) 0 (drop 4 (now (ledger .entry)))) ⌝ }
+    ensures { λ _. ⌜ now (out .exit) ≡ stored (now (out .entry)) 0 (drop 4 (now (ledger .entry))) ⌝ }
 {
     copy_bytes(&ledger[4..], out);
 }
@@ -202,23 +207,39 @@ pub fn ledger_measure(ledger: &[u8]) -> Measure
     Measure::Size { table_id, length }
 }
 
+// The refusal of a measure; zeros where there is none.
+pub fn measure_refusal(measure: Measure) -> Refusal
+    ensures { λ f. ⌜ f ≡ measureRefusal measure ⌝ }
+{
+    match measure {
+        Measure::Size {
+            table_id: _,
+            length: _,
+        } => Refusal {
+            number: 0,
+            need: 0,
+            have: 0,
+        },
+        Measure::Refused(f) => f,
+    }
+}
+
 // The plain body of a ledger, stored from the buffer's start on where there is room for it.
 pub fn ledger_read(ledger: &[u8], out: &mut [u8]) -> Answer
     ensures { λ r. ⌜ (r ≡ readAnswer (now (ledger .entry)) (length (now (out .entry)))) × (now (out .exit) ≡ readLeft (now (ledger .entry)) (now (out .entry))) ⌝ }
 {
-    match ledger_measure(ledger) {
-        Measure::Refused(f) => Answer::Refused(f),
-        Measure::Size { table_id, length } => {
-            let have = out.len();
-            if have < length {
-                return Answer::Refused(Refusal {
-                    number: 22,
-                    need: length,
-                    have,
-                });
-            }
-            read_content(table_id, ledger, out);
-            Answer::Done { table_id, length }
-        }
+    let measure = ledger_measure(ledger);
+    let Measure::Size { table_id, length } = measure else {
+        return Answer::Refused(measure_refusal(measure));
+    };
+    let have = out.len();
+    if have < length {
+        return Answer::Refused(Refusal {
+            number: 22,
+            need: length,
+            have,
+        });
     }
+    read_content(table_id, ledger, out);
+    Answer::Done { table_id, length }
 }

@@ -1,23 +1,19 @@
--- How the lines grow store by store, and two decimal numbers worked out.
+-- How the lines grow store by store.
 -- Assumes nothing.
 use Prim.Native.Nat.{ℕ, zero, suc, _+_, _*_, _-_, _/_, _%_, _≤_, _<_}
 use mathlib.Core.Path.{_≡_, refl, sym, ap, subst, _∙_}
-use mathlib.Core.List.{List, [], _∷_, _++_}
+use mathlib.Core.List.{List, [], _∷_, _++_, append-assoc}
+use mathlib.Core.Bool.{Bool, true, false, cond}
+use lib.Dec.{leb}
 use native.Mathlib.Numerals.{add-one}
 use native.Mathlib.Omega.{arith}
+use borrow.Author.Tests.{le-leb, lt-leb}
 use lib.ListN.{length, take, drop, getD, set, length-set, length-append, length-drop}
-use lib.Seq.{take-suc, take-all, length-take-le, drop-length}
+use lib.Seq.{take-at, take-suc, take-all, length-take-le, drop-length}
 use Rattle.format.specs.Digits.{splice}
+use Rattle.format.specs.Calls.{left}
 use Rattle.bits.proofs.Splices.{length-splice, splice-splice, splice-nil, set-one}
 use Rattle.ledger_text.specs.Text.{hexDigit, hexText, hexLine, decimal, digitsBefore, spaced, refusalLine, Stored, Numbered}
-
-pub decimal-zero : decimal 0 ≡ 48 ∷ []
-unfolding decimal digitsBefore
-decimal-zero = refl
-
-pub decimal-4097 : decimal 4097 ≡ 52 ∷ 48 ∷ 57 ∷ 55 ∷ []
-unfolding decimal digitsBefore
-decimal-4097 = refl
 
 -- one more element behind those stored
 pub store-next : (l : List ℕ) {out : List ℕ} (at : ℕ) (xs : List ℕ) (n x : ℕ) → out ≡ splice l at xs → n ≡ at + length xs → n < length l
@@ -150,26 +146,62 @@ spelt {n} {i} {rest} {text} st e = sym (none-left i (drop i text)) ∙ (rw e at 
 pub spelt-full : {n i rest : ℕ} {text : List ℕ} → Spelling n i rest text → i ≡ 0 → drop i text ≡ decimal n
 spelt-full {n} {i} {rest} {text} st e = rw e (sym (no-place rest (drop 0 text)) ∙ (rw e at (st .list)))
 
--- where there is no room nothing is stored
-pub too-short : (room : ℕ) (line l : List ℕ) → length l < room → Stored room line l l 0
-too-short room line l h = record { fits = λ g. absurd (omega arith); short = λ _. (refl, refl); within = omega arith }
+-- a line that is stored, and one for which there is no room
+pub stored-whole : (line l out : List ℕ) (r : ℕ) → length line ≤ length l → r ≡ length line → out ≡ splice l 0 line → Stored line l out r
+unfolding left
+stored-whole line l out r h p q = let t = le-leb (length line) (length l) h in record { size = rw t p; bytes = rw t q }
+
+pub too-short : (line l : List ℕ) → length l < length line → Stored line l l 0
+unfolding left
+too-short line l h = let t = lt-leb (length line) (length l) h in record { size = rw t; bytes = rw t }
+
+pub stored-fits : {line l out : List ℕ} {r : ℕ} → Stored line l out r → length line ≤ length l → (r ≡ length line) × (out ≡ splice l 0 line)
+unfolding left
+stored-fits {line} {l} s h = let t = le-leb (length line) (length l) h in (rw t at (s .size), rw t at (s .bytes))
+
+-- it is within the buffer
+pub splice-long : (l xs : List ℕ) → length xs ≤ length (splice l 0 xs)
+unfolding splice
+splice-long l xs = simp length-append (omega arith)
+
+pub stored-within : {line l out : List ℕ} {r : ℕ} → Stored line l out r → r ≤ length out
+unfolding left
+stored-within {line} {l} s = go (leb (length line) (length l)) (s .size) (s .bytes)
+  where
+    go : {out : List ℕ} {r : ℕ} (t : Bool) → r ≡ cond t (length line) 0 → out ≡ cond t (splice l 0 line) l → r ≤ length out
+    go true p q = rw (p, q) (splice-long l line)
+    go false p q = rw p (omega arith)
+
+-- what is stored at the start
+taken : (l xs : List ℕ) (n : ℕ) → length xs ≡ n → take n (splice l 0 xs) ≡ xs
+unfolding splice
+taken l xs n e = take-at xs (drop (0 + length xs) l) n e
 
 -- a line whose last byte is stored behind the others
-pub ended : (room : ℕ) (xs l out : List ℕ) (n x : ℕ) → room ≤ length l → out ≡ splice l 0 xs → n ≡ length xs → n < length l
-    → Stored room (xs ++ (x ∷ [])) l (set out n x) (n + 1)
-ended room xs l out n x g e p h =
-    let long : length out ≡ length l = rw e (length-splice l 0 xs (omega arith)) in
-    let len : length (xs ++ (x ∷ [])) ≡ n + 1 = simp (length-append, sym p) refl in
-    record {
-      fits = λ _. (sym len, store-next l 0 xs n x e (omega arith) h);
-      short = λ b. absurd (omega arith);
-      within = simp length-set (omega arith);
-    }
+module _ (xs l : List ℕ) {out : List ℕ} (n x : ℕ) (e : out ≡ splice l 0 xs) (p : n ≡ length xs) (h : n < length l) where
+  longer : length (xs ++ (x ∷ [])) ≡ n + 1
+  longer = simp (length-append, sym p) refl
+
+  all-bytes : set out n x ≡ splice l 0 (xs ++ (x ∷ []))
+  all-bytes = store-next l 0 xs n x e (omega arith) h
+
+  ended : Stored (xs ++ (x ∷ [])) l (set out n x) (n + 1)
+  ended = stored-whole (xs ++ (x ∷ [])) l (set out n x) (n + 1) (omega (arith, longer)) (sym longer) all-bytes
+
+  laid : take (n + 1) (set out n x) ≡ xs ++ (x ∷ [])
+  laid = ap (take (n + 1)) all-bytes ∙ taken l (xs ++ (x ∷ [])) (n + 1) longer
+
+pub hex-line-length : (xs : List ℕ) → length (hexLine xs) ≡ 2 * length xs + 1
+unfolding hexLine
+hex-line-length xs = length-append (hexText xs) (10 ∷ []) ∙ ap (λ (n : ℕ). n + 1) (hex-length xs)
+
+pub hex-short : (bytes l : List ℕ) → length l < 2 * length bytes + 1 → Stored (hexLine bytes) l l 0
+hex-short bytes l h = too-short (hexLine bytes) l (omega (arith, hex-line-length bytes))
 
 pub hex-stored : (bytes l out : List ℕ) → out ≡ splice l 0 (hexText bytes) → 2 * length bytes + 1 ≤ length l
-    → Stored (2 * length bytes + 1) (hexLine bytes) l (set out (2 * length bytes) 10) (2 * length bytes + 1)
+    → Stored (hexLine bytes) l (set out (2 * length bytes) 10) (2 * length bytes + 1)
 unfolding hexLine
-hex-stored bytes l out e h = ended (2 * length bytes + 1) (hexText bytes) l out (2 * length bytes) 10 h e (sym (hex-length bytes)) (omega arith)
+hex-stored bytes l out e h = ended (hexText bytes) l (2 * length bytes) 10 e (sym (hex-length bytes)) (omega arith)
 
 pub part-length : (text : List ℕ) (start : ℕ) → length text ≡ 20 → length (take (20 - start) (drop start text)) ≡ 20 - start
 part-length text start h = length-take-le (20 - start) (drop start text) (omega (arith, length-drop start text))
@@ -188,17 +220,19 @@ numbered l out text at n start room g size d e =
     }
 
 -- a number behind what is stored
-pub joined : (l o out xs : List ℕ) (at n r : ℕ) → o ≡ splice l 0 xs → at ≡ length xs → at ≤ length l → Numbered o out at n r
+joined : (l o out xs : List ℕ) (at n r : ℕ) → o ≡ splice l 0 xs → at ≡ length xs → at ≤ length l → Numbered o out at n r
     → (out ≡ splice l 0 (xs ++ spaced n)) × (r ≡ length (xs ++ spaced n))
 joined l o out xs at n r e p h s =
     (s .list ∙ ap (λ (k : List ℕ). splice k at (spaced n)) e ∙ splice-splice l 0 xs (spaced n) at (omega arith) (omega arith), s .place ∙ simp (length-append, sym p) refl)
 
-pub refusal-stored : (l a b c : List ℕ) (number need have p q r : ℕ) → 65 ≤ length l
+-- a refusal's line, stored piece by piece
+pub refusal-laid : (l a b c : List ℕ) (number need have p q r : ℕ) → 65 ≤ length l
     → Numbered (set l 0 82) a 1 number p → Numbered a b p need q → Numbered b c q have r
-    → Stored 65 (refusalLine number need have) l (set c r 10) (r + 1)
+    → take (r + 1) (set c r 10) ≡ refusalLine number need have
 unfolding refusalLine
-refusal-stored l a b c number need have p q r h s t u =
+refusal-laid l a b c number need have p q r h s t u =
     let first = joined l (set l 0 82) a (82 ∷ []) 1 number p (set-one l 0 82 (omega arith)) refl (omega arith) s in
     let second = joined l a b ((82 ∷ []) ++ spaced number) p need q (first .0) (first .1) (omega (arith, s .most)) t in
     let third = joined l b c (((82 ∷ []) ++ spaced number) ++ spaced need) q have r (second .0) (second .1) (omega (arith, s .most, t .most)) u in
-    ended 65 ((((82 ∷ []) ++ spaced number) ++ spaced need) ++ spaced have) l c r 10 h (third .0) (third .1) (omega (arith, s .most, t .most, u .most))
+    let room : r < length l = omega (arith, s .most, t .most, u .most) in
+    laid ((((82 ∷ []) ++ spaced number) ++ spaced need) ++ spaced have) l r 10 (third .0) (third .1) room ∙ simp append-assoc

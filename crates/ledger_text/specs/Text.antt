@@ -1,12 +1,21 @@
 -- The program's lines as lists of ASCII codes: a byte string in hexadecimal, and a refusal.
 -- Assumes nothing: these are definitions.
-use Prim.Native.Nat.{ℕ, zero, suc, _+_, _/_, _%_, _≤_, _<_}
+use Prim.Native.Nat.{ℕ, zero, suc, _+_, _/_, _%_, _≤_}
+use Prim.Native.Char.{code}
+use Prim.Native.String.{String, [] as []ˢ, _∷_ as _∷ˢ_}
 use mathlib.Core.Path.{_≡_}
 use mathlib.Core.Bool.{cond}
 use mathlib.Core.List.{List, [], _∷_, _++_}
-use lib.Dec.{ltb}
+use lib.Dec.{ltb, leb}
 use lib.ListN.{length}
 use Rattle.format.specs.Digits.{splice}
+use Rattle.format.specs.Syntax.{got}
+use Rattle.format.specs.Calls.{left}
+
+-- the codes of a text's characters
+abbrev pub ascii : String → List ℕ
+ascii []ˢ = []
+ascii (c ∷ˢ s) = code c ∷ ascii s
 
 -- `0` to `9`, then `a` to `f`
 unfoldable pub hexDigit : ℕ → ℕ
@@ -18,7 +27,7 @@ hexText [] = []
 hexText (x ∷ xs) = hexDigit (x / 16) ∷ hexDigit (x % 16) ∷ hexText xs
 
 unfoldable pub hexLine : List ℕ → List ℕ
-hexLine xs = hexText xs ++ (10 ∷ [])
+hexLine xs = hexText xs ++ ascii "\n"
 
 -- the digits of n, at most as many as the first number, in front of those that are there; none for 0
 unfoldable pub digitsBefore : ℕ → ℕ → List ℕ → List ℕ
@@ -32,17 +41,17 @@ decimal n = digitsBefore 19 (n / 10) ((48 + n % 10) ∷ [])
 
 -- a space and a number
 unfoldable pub spaced : ℕ → List ℕ
-spaced n = 32 ∷ decimal n
+spaced n = ascii " " ++ decimal n
 
 -- `R`, three numbers each behind a space, a newline
 unfoldable pub refusalLine : ℕ → ℕ → ℕ → List ℕ
-refusalLine number need have = ((((82 ∷ []) ++ spaced number) ++ spaced need) ++ spaced have) ++ (10 ∷ [])
+refusalLine number need have = ascii "R" ++ spaced number ++ spaced need ++ spaced have ++ ascii "\n"
 
--- A line stored at the start of a buffer that has the room asked for, and its length; in a shorter buffer nothing is stored, and the length is 0.
-pub record Stored (room : ℕ) (line before after : List ℕ) (r : ℕ) : Type 0 where
-  pub fits : room ≤ length before → (r ≡ length line) × (after ≡ splice before 0 line)
-  pub short : length before < room → (r ≡ 0) × (after ≡ before)
-  pub within : r ≤ length after
+-- A line stored at the start of a buffer that has room for it, and its length; in a shorter buffer nothing is stored,
+-- and the length is 0.
+pub record Stored (line before after : List ℕ) (r : ℕ) : Type 0 where
+  pub size : r ≡ cond (leb (length line) (length before)) (length line) 0
+  pub bytes : after ≡ left before (got line [])
 
 -- a space and a number's digits, stored from a place on, and the place behind them: 21 bytes on at most
 pub record Numbered (l out : List ℕ) (at n r : ℕ) : Type 0 where

@@ -1,11 +1,9 @@
-// The lines that the programs print: bytes in hexadecimal, and a refusal; into a buffer that the caller lends, or to the output.
+// The lines that the programs print: bytes in hexadecimal, and a refusal; stored in a buffer that the caller lends.
 ghost use mathlib.Core.Path.{_≡_};
 ghost use Prim.Native.Nat.{_+_, _*_, _/_, _%_, _≤_, _<_};
 ghost use lib.ListN.{length, drop};
 ghost use Rattle.format.specs.Digits.{splice};
 ghost use Rattle.ledger_text.specs.Text.{hexDigit, hexText, hexLine, decimal, refusalLine, Stored, Numbered};
-use format::Refusal;
-use libc::STDOUT_FILENO;
 
 fn hex_digit(d: u8) -> u8
     requires { ⌜ d < 16 ⌝ }
@@ -43,7 +41,7 @@ fn put_hex(bytes: &[u8], out: &mut [u8])
 // The bytes in lowercase hexadecimal and a newline, and the line's length. Where the buffer is too short
 // it stays as it is, and the length is 0.
 pub fn hex_line(bytes: &[u8], out: &mut [u8]) -> usize
-    ensures { λ r. ⌜ Stored (2 * length (now (bytes .entry)) + 1) (hexLine (now (bytes .entry))) (now (out .entry)) (now (out .exit)) r ⌝ }
+    ensures { λ r. ⌜ Stored (hexLine (now (bytes .entry))) (now (out .entry)) (now (out .exit)) r ⌝ }
 {
     let have = out.len();
     let size = bytes.len();
@@ -101,34 +99,28 @@ fn put_number(out: &mut [u8], at: usize, n: usize) -> usize
     at + 21 - start
 }
 
-// `R`, the refusal's number, need and have behind a space each, and a newline; the answer is the line's length.
-// 65 bytes hold every such line. A shorter buffer stays as it is, and the length is 0.
-pub fn refusal_line(number: u8, need: usize, have: usize, out: &mut [u8]) -> usize
-    ensures { λ r. ⌜ Stored 65 (refusalLine number need have) (now (out .entry)) (now (out .exit)) r ⌝ }
+// A line at the buffer's start, and its length. Where the buffer is too short it stays as it is, and the length is 0.
+pub fn put_line(line: &[u8], out: &mut [u8]) -> usize
+    ensures { λ r. ⌜ Stored (now (line .entry)) (now (out .entry)) (now (out .exit)) r ⌝ }
 {
-    if out.len() < 65 {
+    let size = line.len();
+    if out.len() < size {
         return 0;
     }
-    out[0] = b'R';
-    let first = put_number(out, 1, number as usize);
-    let second = put_number(out, first, need);
-    let third = put_number(out, second, have);
-    out[third] = 10;
-    third + 1
+    put_bytes(line, out, 0);
+    size
 }
 
-// Prints bytes in lowercase hexadecimal, as a line; the longest ledger of a body has 8,198.
-pub fn print_bytes(bytes: &[u8])
-    requires { ⌜ length (now bytes) ≤ 8198 ⌝ }
+// `R`, the refusal's number, need and have behind a space each, and a newline, stored as a line; 65 bytes hold
+// every such line.
+pub fn refusal_line(number: u8, need: usize, have: usize, out: &mut [u8]) -> usize
+    ensures { λ r. ⌜ Stored (refusalLine number need have) (now (out .entry)) (now (out .exit)) r ⌝ }
 {
-    let mut line = [0u8; 16397];
-    let size = hex_line(bytes, &mut line);
-    io::write_all(STDOUT_FILENO, &line[..size]);
-}
-
-// Prints a refusal, as a line.
-pub fn print_refusal(f: Refusal) {
     let mut line = [0u8; 65];
-    let size = refusal_line(f.number, f.need, f.have, &mut line);
-    io::write_all(STDOUT_FILENO, &line[..size]);
+    line[0] = b'R';
+    let first = put_number(&mut line, 1, number as usize);
+    let second = put_number(&mut line, first, need);
+    let third = put_number(&mut line, second, have);
+    line[third] = 10;
+    put_line(&line[..third + 1], out)
 }

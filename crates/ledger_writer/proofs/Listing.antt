@@ -21,8 +21,10 @@ use Rattle.format.proofs.ReadLaws.{rest-at, place-at}
 use Rattle.format.proofs.WalkLaws as walk-laws
 use Rattle.format.proofs.WalkLaws.{ahead, ahead-none, ahead-more, turn-on, turn-no, turn-end}
 use Rattle.bits.proofs.Splices.{splice-splice, splice-front, splice-nil}
+use Rattle.runs.specs.Steps.{stored}
 use Rattle.runs.specs.declared.Step.{Step}
 use Rattle.runs.specs.declared.Step.the-variants.{Refused}
+use Rattle.runs.proofs.Stores.{digits-fit}
 use Rattle.write_runs.specs.Went.{Went, Stopped, Placed}
 use Rattle.write_runs.proofs.WentLaws.{pushes-got}
 use Rattle.ledger_writer.specs.Listed.{entryOf, leastOf, entriesIn, entriesAt, Wrote, Faulty, Listed}
@@ -93,9 +95,6 @@ begin {body} {out} {id} {start} {place} p a =
       few = omega arith;
     }
 
-pub ledger-size : {body out out′ : List ℕ} {e at a p : ℕ} {s s′ : Syntax} (w : Went body e s at 0 out s′ a p out′) → length (ledger (w .ts)) ≡ p
-ledger-size w = omega (arith, w .size)
-
 module _ {body out₀ out : List ℕ} {id start place at there count : ℕ} (st : Listing body id start place out₀ at there count out) where
   abbrev n : ℕ
   n = 8 * length body
@@ -103,9 +102,8 @@ module _ {body out₀ out : List ℕ} {id start place at there count : ℕ} (st 
   left-turns : leastOf id ≤ n - at → n - start - count ≡ suc (n - start - (count + 1))
   left-turns h = omega (arith, st .few, st .placed .within, least-is id .1)
 
-  pub turn : {part out′ : List ℕ} {a size : ℕ} (w : Went body 0 (entryOf id) at 0 part end a size out′) (out₁ : List ℕ) → leastOf id ≤ n - at → length out₁ ≡ length out
-      → (there + size ≤ length out → out₁ ≡ splice out there (ledger (w .ts))) → (at < a) × Listing body id start place out₀ a (there + size) (count + 1) out₁
-  turn {part} {out′} {a} {size} w out₁ h l b =
+  pub turn : {out′ : List ℕ} {a p : ℕ} → Went body 0 (entryOf id) at there out end a p out′ → leastOf id ≤ n - at → (at < a) × Listing body id start place out₀ a p (count + 1) out′
+  turn {out′} {a} w h =
       let e = place-at body a (w .within) in
       let x = walk-laws.ended (leastOf id) (entryOf id) (fine-of id) (least-is id .0) (least-is id .1) body at (w .ts) (drop a (bitsOf body)) (st .placed .within) (st .aligned) (went-got w) in
       let ll = ap length (ledgers-more (st .es) (w .ts)) ∙ length-append (ledgers (st .es)) (ledger (w .ts)) in
@@ -121,10 +119,10 @@ module _ {body out₀ out : List ℕ} {id start place at there count : ℕ} (st 
           aligned = omega (arith, x .byte, e);
           number = omega (arith, st .number, length-append (st .es) (w .ts ∷ []));
           here = omega (arith, st .here);
-          bytes = λ r. b (omega (arith, st .long)) ∙ ap (λ (m : List ℕ). splice m there (ledger (w .ts))) (st .bytes (omega arith))
+          bytes = λ r. w .bytes (omega (arith, st .long)) ∙ ap (λ (m : List ℕ). splice m there (ledger (w .ts))) (st .bytes (omega arith))
               ∙ splice-splice out₀ (place + 2) (ledgers (st .es)) (ledger (w .ts)) there (st .here) (omega (arith, st .here))
               ∙ ap (splice out₀ (place + 2)) (sym (ledgers-more (st .es) (w .ts)));
-          long = l ∙ st .long;
+          long = w .long ∙ st .long;
           placed = record { short = p .short; within = w .within; behind = omega (arith, w .slack, p .behind) };
           few = omega (arith, st .few, go);
         },
@@ -137,7 +135,7 @@ module _ {body out₀ out : List ℕ} {id start place at there count : ℕ} (st 
   }
 
   -- no entry is left, and the count is put in front
-  pub ended : {out′ : List ℕ} → n - at < leastOf id → (place + 2 ≤ length out → out′ ≡ splice out place (digits 256 2 count)) → Wrote body id start place out₀ there out′
+  pub ended : {out′ : List ℕ} → n - at < leastOf id → out′ ≡ stored out place (digits 256 2 count) → Wrote body id start place out₀ there out′
   ended {out′} h b =
       let d : List ℕ = digits 256 2 (length (st .es)) in
       let ld : length d ≡ 2 = length-digits 256 2 (length (st .es)) in
@@ -149,7 +147,7 @@ module _ {body out₀ out : List ℕ} {id start place at there count : ℕ} (st 
         rest = drop at (bitsOf body);
         reads = st .walked ∙ ap (ahead (st .es)) (turn-end (λ p us. us) (leastOf id) (entryOf id) body (n - start - count) at h) ∙ ap (λ (k : List (List Field)). got k (drop at (bitsOf body))) (append-nil (st .es));
         size = omega arith;
-        bytes = λ r. b (omega (arith, st .long)) ∙ ap (λ (k : ℕ). splice out place (digits 256 2 k)) (st .number)
+        bytes = λ r. b ∙ digits-fit out place 2 count (omega (arith, st .long)) ∙ ap (λ (k : ℕ). splice out place (digits 256 2 k)) (st .number)
             ∙ ap (λ (m : List ℕ). splice m place d) (st .bytes r)
             ∙ splice-front out₀ d (ledgers (st .es)) place (place + 2) (omega arith) (omega arith);
         behind = omega (arith, p .behind, p .within);

@@ -26,12 +26,13 @@ use Rattle.format.proofs.ReadLaws.{place-at}
 use Rattle.format.proofs.WalkLaws as walk-laws
 use Rattle.format.proofs.TableLaws.{read-all}
 use Rattle.bits.proofs.Splices.{splice-splice, part-splice}
-use Rattle.runs.specs.Steps.{refusalIn}
+use Rattle.runs.specs.Steps.{refusalIn, stored}
 use Rattle.runs.specs.declared.Step.{Step}
 use Rattle.runs.specs.declared.Step.the-variants.{Done, Refused}
+use Rattle.runs.proofs.Stores.{stored-fits}
 use Rattle.write_runs.specs.Went.{Went, Ran}
 use Rattle.ledger_writer.specs.Listed.{entryOf, leastOf, listing, Listed}
-use Rattle.ledger_writer.specs.Written.{Filled, ContentIn, Content, sizeIn, sizeAnswer}
+use Rattle.ledger_writer.specs.Written.{Filled, ContentIn, Content, sizeIn, sizeAnswer, sizeRefusal}
 use Rattle.ledger_writer.specs.declared.LedgerSize as sizes
 use Rattle.ledger_writer.specs.declared.LedgerSize.the-variants as sized
 use Rattle.ledger_writer.proofs.Listing.{went-got}
@@ -47,9 +48,9 @@ layout-opaque (suc (suc (suc zero))) h = absurd (omega arith)
 layout-opaque (suc (suc (suc (suc zero)))) h = absurd (omega arith)
 layout-opaque (suc (suc (suc (suc (suc n))))) h = refl
 
-pub as-is : {id : ℕ} {body out out′ : List ℕ} → 4 < id → (length body ≤ length out → out′ ≡ splice out 0 body) → Filled body id out (length body) out′
+pub as-is : {id : ℕ} {body out out′ : List ℕ} → 4 < id → out′ ≡ stored out 0 body → Filled body id out (length body) out′
 unfolding readAs contentOf
-as-is {id} {body} h b = record { t = asIs body; reads = rw (layout-opaque id h); size = refl; bytes = b; small = omega arith }
+as-is {id} {body} {out} h b = record { t = asIs body; reads = rw (layout-opaque id h); size = refl; bytes = λ r. b ∙ stored-fits out 0 body (omega arith); small = omega arith }
 
 -- id 2: one set of fields
 pub once : {id : ℕ} {body out out′ : List ℕ} {r : Step} → id ≡ 2 → Ran body 0 association 0 0 out (λ _. end) out′ r → Content body id out out′ r
@@ -154,9 +155,9 @@ abbrev Says : ℕ → List ℕ → List ℕ → answers.Answer → List ℕ → 
 Says id body out w out′ = (w ≡ writeAnswer id body (length out)) × (out′ ≡ writeLeft id body out)
 
 -- a body that is refused
-pub says-no : (id : ℕ) (body out : List ℕ) {f : Refusal} {s : sizes.LedgerSize} → s ≡ sized.Refused f → s ≡ sizeAnswer id body → Says id body out (says.Refused f) out
-unfolding writeAnswer writeLeft sizeAnswer answer left sizeIn
-says-no id body out {f} q e = go (filed id body) (sym q ∙ e)
+pub says-no : (id : ℕ) (body out : List ℕ) {f g : Refusal} {s : sizes.LedgerSize} → s ≡ sized.Refused f → s ≡ sizeAnswer id body → g ≡ sizeRefusal s → Says id body out (says.Refused g) out
+unfolding writeAnswer writeLeft sizeAnswer sizeRefusal answer left sizeIn
+says-no id body out {f} q e r = rw (r, q) (go (filed id body) (sym q ∙ e))
   where
     go : (p : Parse (List ℕ)) → sized.Refused f ≡ sizeIn p → (says.Refused f ≡ answer id (length out) p) × (out ≡ left out p)
     go (got xs rest) e = let o : _≡_ {A = ℕ} 0 1 = cc in absurd (omega arith)

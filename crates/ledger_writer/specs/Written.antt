@@ -40,5 +40,11 @@ unfoldable pub sizeIn : Parse (List ℕ) → LedgerSize
 sizeIn (got xs rest) = Size (length xs)
 sizeIn (refused number needed had) = Refused (refuse number needed had)
 
+-- the refusal in it; zeros where there is none
+unfoldable pub sizeRefusal : LedgerSize → Refusal
+sizeRefusal (Size n) = refuse 0 0 0
+sizeRefusal (Refused f) = f
+
+-- how long the ledger of a body is
 unfoldable pub sizeAnswer : ℕ → List ℕ → LedgerSize
 sizeAnswer id b = sizeIn (filed id b)

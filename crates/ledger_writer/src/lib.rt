@@ -3,12 +3,11 @@
 ghost use mathlib.Core.Path.{_≡_};
 ghost use Prim.Native.Nat.{_+_, _%_, _≤_};
 ghost use lib.ListN.{length};
-ghost use Rattle.format.specs.Digits.{splice};
 ghost use Rattle.format.specs.Syntax.{end};
 ghost use Rattle.format.specs.Calls.{writeAnswer, writeLeft};
 ghost use Rattle.write_runs.specs.Went.{Placed, Ran};
 ghost use Rattle.ledger_writer.specs.Listed.{entryOf, leastOf, Listed};
-ghost use Rattle.ledger_writer.specs.Written.{Content, sizeAnswer};
+ghost use Rattle.ledger_writer.specs.Written.{Content, sizeAnswer, sizeRefusal};
 use bits::put_be;
 use format::Answer;
 use format::Refusal;
@@ -19,6 +18,7 @@ use write_ephemeris::write_header;
 use write_ephemeris::write_position3;
 use write_plans::write_plan;
 use write_runs::put;
+use write_runs::within;
 use write_tables::write_association;
 use write_tables::write_fragment;
 use write_tables::write_position;
@@ -61,16 +61,6 @@ fn least_of(table_id: u8) -> usize
         return 48;
     }
     32
-}
-
-// A place within a buffer of n bytes, or its end.
-fn within(place: usize, n: usize) -> usize
-    ensures { λ r. ⌜ (r ≤ n) × (place ≤ n → r ≡ place) ⌝ }
-{
-    if place < n {
-        return place;
-    }
-    n
 }
 
 // The entries from a bit place on, behind their 2-byte count.
@@ -157,13 +147,27 @@ pub fn ledger_size(table_id: u8, body: &[u8]) -> LedgerSize
     LedgerSize::Size(size + 4)
 }
 
+// The refusal in an answer on the size; zeros where there is none.
+pub fn size_refusal(size: LedgerSize) -> Refusal
+    ensures { λ f. ⌜ f ≡ sizeRefusal size ⌝ }
+{
+    match size {
+        LedgerSize::Size(_) => Refusal {
+            number: 0,
+            need: 0,
+            have: 0,
+        },
+        LedgerSize::Refused(f) => f,
+    }
+}
+
 // The ledger of a body, at the start of the buffer, and its length; after a refusal the buffer is as it was.
 pub fn ledger_write(table_id: u8, body: &[u8], out: &mut [u8]) -> Answer
     ensures { λ r. ⌜ (r ≡ writeAnswer «table_id» (now (body .entry)) (length (now (out .entry)))) × (now (out .exit) ≡ writeLeft «table_id» (now (body .entry)) (now (out .entry))) ⌝ }
 {
-    let need = match ledger_size(table_id, body) {
-        LedgerSize::Size(n) => n,
-        LedgerSize::Refused(f) => return Answer::Refused(f),
+    let size = ledger_size(table_id, body);
+    let LedgerSize::Size(need) = size else {
+        return Answer::Refused(size_refusal(size));
     };
     let have = out.len();
     if have < need {

@@ -104,7 +104,7 @@ impl InterpolationType {
 }
 
 // The refusal in an answer; zeros where the answer is no refusal.
-pub fn usable_refusal(r: UsableAnswer) -> Refusal
+fn usable_refusal(r: UsableAnswer) -> Refusal
     ensures { λ f. ⌜ f ≡ usableRefusal r ⌝ }
 {
     match r {

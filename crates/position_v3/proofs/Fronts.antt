@@ -13,8 +13,15 @@ use Rattle.format.specs.Syntax.{Syntax, unsigned, end, Field}
 use Rattle.format.specs.ByName.{firstBy}
 use Rattle.format.specs.declared.Refusal.{Refusal}
 use Rattle.format.proofs.GroupLaws.{Line, plainly, stand}
+use Rattle.bits.specs.Read.{readAt}
+use Rattle.bits.specs.declared.Bits.{Bits}
+use Rattle.bits.specs.declared.Bits.the-variants as bits
+use Rattle.bits.proofs.Reading.{got, sub}
 use Rattle.passing.proofs.Passing.{Passed, Stopped, nothing, field-passed, field-stopped, field-short, passed-end}
-use Rattle.position_v3.specs.PositionV3.{front, frontBy, frontOf, frontAt, frontRefusal}
+use Rattle.position_v3.specs.PositionV3.{flags, flagsBy, flagsAt, flagsRefusal, front, frontBy, frontOf, frontAt, frontRefusal}
+use Rattle.position_v3.specs.declared.Flags.{Flags}
+use Rattle.position_v3.specs.declared.FlagsAnswer.{FlagsAnswer}
+use Rattle.position_v3.specs.declared.FlagsAnswer.the-variants as fl
 use Rattle.position_v3.specs.declared.Front.{Front}
 use Rattle.position_v3.specs.declared.FrontAnswer.{FrontAnswer}
 use Rattle.position_v3.specs.declared.FrontAnswer.the-variants.{Read, Refused}
@@ -31,9 +38,14 @@ Rest = ℕ → ℕ → ℕ → ℕ → ℕ → Syntax → Syntax
 abbrev pub fronted : Rest → Syntax → Syntax
 fronted k s = front (λ m t u a c. k m t u a c s)
 
+-- a front of its id, its reserved bits, its metadata's flag and the answer for the other flags
+unfoldable made : ℕ → ℕ → ℕ → FlagsAnswer → FrontAnswer
+made i z m (fl.Read f k) = Read (record { «satellite_id» = i; reserved = z; metadata = m; flags = f }) k
+made i z m (fl.Refused f) = Refused f
+
 module _ (b : List ℕ) (p : ℕ) where
   pub front-passed : {q : ℕ} {ls : List Line} {put : List Field → List Field} (k : Rest) → p + 32 ≤ 8 * length b
-      → (let f = frontOf b p in Passed b (k (f .metadata) (f .start) (f .stop) (f .accel) (f .covariance)) ls (p + 32) q put)
+      → (let f = frontOf b p in Passed b (k (f .metadata) (f .flags .start) (f .flags .stop) (f .flags .accel) (f .flags .covariance)) ls (p + 32) q put)
       → Passed b (fronted k) (frontLines ++ ls) p q (λ ts. stand b p 0 frontLines ++ put ts)
   front-passed k h one =
       field-passed unsigned "satellite_id" 24 _ (p + 24) refl (omega arith)
@@ -45,7 +57,7 @@ module _ (b : List ℕ) (p : ℕ) where
       (field-passed unsigned "covariance_flag" 1 _ (p + 32) (omega arith) h one))))))
 
   pub front-behind : {g : Refusal} (k : Rest) → p + 32 ≤ 8 * length b
-      → (let f = frontOf b p in Stopped b (k (f .metadata) (f .start) (f .stop) (f .accel) (f .covariance)) (p + 32) g) → Stopped b (fronted k) p g
+      → (let f = frontOf b p in Stopped b (k (f .metadata) (f .flags .start) (f .flags .stop) (f .flags .accel) (f .flags .covariance)) (p + 32) g) → Stopped b (fronted k) p g
   front-behind k h one =
       field-stopped unsigned "satellite_id" 24 _ (p + 24) refl (omega arith)
       (field-stopped unsigned "reserved_zero_future_use" 3 _ (p + 27) (omega arith) (omega arith)
@@ -74,6 +86,24 @@ module _ (b : List ℕ) (p : ℕ) where
   pub reserved-answer : p + 24 ≤ 8 * length b → 8 * length b < p + 24 + 3 → frontAt b p ≡ Refused (refuse 1 (p + 24 + 3) (8 * length b))
   unfolding frontAt
   reserved-answer l h = reserved-short (λ m t u a c s. s) l h .stop 0 end (λ ts q. Read (frontBy ts) q) Refused
+
+  -- behind three fields that were read, the answer for the flags makes the front's. i, z, m: their numbers; j, k, l: the places behind them
+  module _ {r : FlagsAnswer} {x y w : Bits} {i j z k m l : ℕ} (e : x ≡ readAt b p 24) (g : x ≡ bits.Value i j) (e′ : y ≡ readAt b j 3) (g′ : y ≡ bits.Value z k)
+      (e″ : w ≡ readAt b k 1) (g″ : w ≡ bits.Value m l) (h : r ≡ flagsAt b l) where
+    behind : made i z m r ≡ frontAt b p
+    unfolding frontAt flagsAt firstBy made
+    behind =
+        got b 0 p _ _ unsigned "satellite_id" 24 _ e g (got b 0 j _ _ unsigned "reserved_zero_future_use" 3 _ e′ g′
+        (got b 0 k _ _ unsigned "metadata_flag" 1 _ e″ g″
+        (sub b 0 (flags (λ _ _ _ _. end)) l _ _ (λ ts q. fl.Read (flagsBy ts) q) fl.Refused (made i z m) (λ ts q. refl) (λ f. refl) h refl)))
+
+    pub flags-got : {n : ℕ} {f : Flags} → r ≡ fl.Read f n → Read (record { «satellite_id» = i; reserved = z; metadata = m; flags = f }) n ≡ frontAt b p
+    unfolding made
+    flags-got o = ap (made i z m) (sym o) ∙ behind
+
+    pub flags-cut : {f g : Refusal} → r ≡ fl.Refused f → g ≡ flagsRefusal r → Refused g ≡ frontAt b p
+    unfolding made flagsRefusal
+    flags-cut o y = ap Refused (y ∙ ap flagsRefusal o) ∙ ap (made i z m) (sym o) ∙ behind
 
   -- on a byte, one of these holds
   cases : {P : Type 1} → p % 8 ≡ 0 → p ≤ 8 * length b → (p + 32 ≤ 8 * length b → P) → (8 * length b < p + 24 → P)

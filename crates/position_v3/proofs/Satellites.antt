@@ -77,10 +77,10 @@ abbrev madeOf : Front → MaybeMetadata → Part → MaybeCovariance → Positio
 madeOf f m t c =
     record {
       «satellite_id» = f .«satellite_id»;
-      «usable_start_time_flag» = eqb (f .start) 1;
-      «usable_stop_time_flag» = eqb (f .stop) 1;
-      «ephemeris_accel_flag» = eqb (f .accel) 1;
-      «covariance_flag» = eqb (f .covariance) 1;
+      «usable_start_time_flag» = eqb (f .flags .start) 1;
+      «usable_stop_time_flag» = eqb (f .flags .stop) 1;
+      «ephemeris_accel_flag» = eqb (f .flags .accel) 1;
+      «covariance_flag» = eqb (f .flags .covariance) 1;
       metadata = m;
       «ephemeris_data» = t;
       covariance = c;
@@ -92,22 +92,22 @@ module _ (b : List ℕ) (p : ℕ) where
   f = frontOf b p
 
   abbrev pub Meta : MaybeMetadata → ℕ → Type 1
-  Meta m q = Block b (f .metadata) (f .start) (f .stop) (p + 32) m q
+  Meta m q = Block b (f .metadata) (f .flags .start) (f .flags .stop) (p + 32) m q
 
   -- refused in the metadata, in the ephemeris data, and in the covariance
-  pub metadata-stopped : {g : Refusal} → p + 32 ≤ 8 * length b → blocks.Halted b (f .metadata) (f .start) (f .stop) (p + 32) g → Stopped b (fronted rest) p g
-  metadata-stopped h s = front-behind b p rest h (stopped-before (λ k. counted (f .accel) (closing (f .covariance) k)) s)
+  pub metadata-stopped : {g : Refusal} → p + 32 ≤ 8 * length b → blocks.Halted b (f .metadata) (f .flags .start) (f .flags .stop) (p + 32) g → Stopped b (fronted rest) p g
+  metadata-stopped h s = front-behind b p rest h (stopped-before (λ k. counted (f .flags .accel) (closing (f .flags .covariance) k)) s)
 
-  pub list-stopped : {m : MaybeMetadata} {q : ℕ} {g : Refusal} → p + 32 ≤ 8 * length b → Meta m q → Unlisted b (f .accel) q g → Stopped b (fronted rest) p g
-  list-stopped h one s = front-behind b p rest h (then-stopped (one .passed) (stopped-before (closing (f .covariance)) s))
+  pub list-stopped : {m : MaybeMetadata} {q : ℕ} {g : Refusal} → p + 32 ≤ 8 * length b → Meta m q → Unlisted b (f .flags .accel) q g → Stopped b (fronted rest) p g
+  list-stopped h one s = front-behind b p rest h (then-stopped (one .passed) (stopped-before (closing (f .flags .covariance)) s))
 
-  pub closing-stopped : {m : MaybeMetadata} {t : Part} {q r : ℕ} {g : Refusal} → p + 32 ≤ 8 * length b → Meta m q → Listed b (f .accel) q t r
-      → closing-laws.Halted b (f .covariance) r g → Stopped b (fronted rest) p g
+  pub closing-stopped : {m : MaybeMetadata} {t : Part} {q r : ℕ} {g : Refusal} → p + 32 ≤ 8 * length b → Meta m q → Listed b (f .flags .accel) q t r
+      → closing-laws.Halted b (f .flags .covariance) r g → Stopped b (fronted rest) p g
   closing-stopped h one two s = front-behind b p rest h (then-stopped (both (one .passed) (two .passed)) s)
 
   -- all of it there
   module _ {m : MaybeMetadata} {t : Part} {c : MaybeCovariance} {q r n : ℕ} (h : p + 32 ≤ 8 * length b)
-      (one : Meta m q) (two : Listed b (f .accel) q t r) (three : Closed b (f .covariance) r c n) where
+      (one : Meta m q) (two : Listed b (f .flags .accel) q t r) (three : Closed b (f .flags .covariance) r c n) where
     abbrev ts : List Field
     ts = stand b p 0 frontLines ++ one .put (two .put (three .put []))
 
@@ -116,11 +116,11 @@ module _ (b : List ℕ) (p : ℕ) where
     whole found fail = passed-end (front-passed b p rest h (both (one .passed) (both (two .passed) (three .passed)))) 0 found fail
 
     -- its values by name
-    part-made : partBy "ephemeris_data_count" (entryBits (f .accel)) p ts ≡ t
+    part-made : partBy "ephemeris_data_count" (entryBits (f .flags .accel)) p ts ≡ t
     unfolding firstBy behind
     part-made =
         let us : List Field = two .put (three .put []) in
-        let w : ℕ = entryBits (f .accel) in
+        let w : ℕ = entryBits (f .flags .accel) in
         let z : p + 24 + 3 + 1 + 1 + 1 + 1 + 1 ≡ p + 32 = omega arith in
         let o : Other "ephemeris_data_count" metadataLines = others "ephemeris_data_count" metadataLines refl in
         let x : behind "ephemeris_data_count" (p + 24 + 3 + 1 + 1 + 1 + 1 + 1) (one .put us) ≡ behind "ephemeris_data_count" q us =
@@ -130,10 +130,10 @@ module _ (b : List ℕ) (p : ℕ) where
         one .passed .finds "ephemeris_data_count" (λ _ us. the "ephemeris_data_count" us) (first-finds numberIn 0 "ephemeris_data_count") o us in
         (λ i. partFrom w (x i) (y i)) ∙ two .value (three .put [])
 
-    covariance-made : maybeCovariance (f .covariance) ts ≡ c
+    covariance-made : maybeCovariance (f .flags .covariance) ts ≡ c
     unfolding firstBy
     covariance-made =
-        ap (λ (k : CovarianceData). cond (eqb (f .covariance) 1) (cov.Some k) cov.None)
+        ap (λ (k : CovarianceData). cond (eqb (f .flags .covariance) 1) (cov.Some k) cov.None)
         (covariance-behind (one .passed) (others "covariance_epoch_year" metadataLines refl) (others "covariance_epoch_day" metadataLines refl) (others "covariance_epoch_day_fraction" metadataLines refl) (others "covariance_epoch_reserved_zero_future_use" metadataLines refl) (two .put (three .put []))
         ∙ covariance-behind (two .passed) (others "covariance_epoch_year" ephemerisLines refl) (others "covariance_epoch_day" ephemerisLines refl) (others "covariance_epoch_day_fraction" ephemerisLines refl) (others "covariance_epoch_reserved_zero_future_use" ephemerisLines refl) (three .put []))
         ∙ three .value []
@@ -143,10 +143,10 @@ module _ (b : List ℕ) (p : ℕ) where
     satellite-made =
         λ i. record {
           «satellite_id» = f .«satellite_id»;
-          «usable_start_time_flag» = eqb (f .start) 1;
-          «usable_stop_time_flag» = eqb (f .stop) 1;
-          «ephemeris_accel_flag» = eqb (f .accel) 1;
-          «covariance_flag» = eqb (f .covariance) 1;
+          «usable_start_time_flag» = eqb (f .flags .start) 1;
+          «usable_stop_time_flag» = eqb (f .flags .stop) 1;
+          «ephemeris_accel_flag» = eqb (f .flags .accel) 1;
+          «covariance_flag» = eqb (f .flags .covariance) 1;
           metadata = one .value (two .put (three .put [])) i;
           «ephemeris_data» = part-made i;
           covariance = covariance-made i;
@@ -160,22 +160,22 @@ module _ (b : List ℕ) (p : ℕ) where
         one .passed .finds "covariance_elements" (λ _ us. allBy "covariance_elements" us) (all-finds "covariance_elements") (others "covariance_elements" metadataLines refl) (two .put (three .put []))
         ∙ two .passed .finds "covariance_elements" (λ _ us. allBy "covariance_elements" us) (all-finds "covariance_elements") (others "covariance_elements" ephemerisLines refl) (three .put [])
 
-    elements-made : elementsBy (the "covariance_flag" ts) ts ≡ elementsBefore b (f .covariance) n
+    elements-made : elementsBy (the "covariance_flag" ts) ts ≡ elementsBefore b (f .flags .covariance) n
     unfolding firstBy
-    elements-made = go (eqb (f .covariance) 1) refl
+    elements-made = go (eqb (f .flags .covariance) 1) refl
       where
-        go : (d : Bool) → eqb (f .covariance) 1 ≡ d → cond d (allBy "covariance_elements" ts) (replicate 21 0) ≡ cond d (wordsAt b (n - 672) 21) (replicate 21 0)
-        go true e = all-behind ∙ elements b (f .covariance) r three (eqb-true (f .covariance) 1 e) .words
+        go : (d : Bool) → eqb (f .flags .covariance) 1 ≡ d → cond d (allBy "covariance_elements" ts) (replicate 21 0) ≡ cond d (wordsAt b (n - 672) 21) (replicate 21 0)
+        go true e = all-behind ∙ elements b (f .flags .covariance) r three (eqb-true (f .flags .covariance) 1 e) .words
         go false e = refl
 
-    tail-of : Place b p → Tail b (f .covariance) n
+    tail-of : Place b p → Tail b (f .flags .covariance) n
     tail-of l =
         record {
           place = record { short = l .short; within = three .passed .within };
-          behind = λ e. omega (arith, elements b (f .covariance) r three e .next);
+          behind = λ e. omega (arith, elements b (f .flags .covariance) r three e .next);
         }
 
-    whole-read : record { answer = Entry (madeOf f m t c) n; «covariance_elements» = elementsBefore b (f .covariance) n } ≡ readV3At b p
+    whole-read : record { answer = Entry (madeOf f m t c) n; «covariance_elements» = elementsBefore b (f .flags .covariance) n } ≡ readV3At b p
     unfolding satelliteV3At elementsV3At
     whole-read =
         λ i. record {
@@ -195,48 +195,48 @@ module _ (b : List ℕ) (p : ℕ) {k : Front} {n : ℕ} (l : Place b p) (o : Fro
   pub place : Place b n
   place = record { short = l .short; within = omega (arith, o .next, o .room) }
 
-  module _ {x : MetadataAnswer} (e : x ≡ metadataAt b (k .metadata) (k .start) (k .stop) n) where
-    same : x ≡ metadataAt b (frontOf b p .metadata) (frontOf b p .start) (frontOf b p .stop) (p + 32)
-    same = e ∙ (λ i. metadataAt b (v i .metadata) (v i .start) (v i .stop) (o .next i))
+  module _ {x : MetadataAnswer} (e : x ≡ metadataAt b (k .metadata) (k .flags .start) (k .flags .stop) n) where
+    same : x ≡ metadataAt b (frontOf b p .metadata) (frontOf b p .flags .start) (frontOf b p .flags .stop) (p + 32)
+    same = e ∙ (λ i. metadataAt b (v i .metadata) (v i .flags .start) (v i .flags .stop) (o .next i))
 
     pub meta-told : {m : MaybeMetadata} {q : ℕ} → x ≡ ma.Read m q → Meta b p m q
-    meta-told h = block-told b (frontOf b p .metadata) (frontOf b p .start) (frontOf b p .stop) (p + 32) here same h
+    meta-told h = block-told b (frontOf b p .metadata) (frontOf b p .flags .start) (frontOf b p .flags .stop) (p + 32) here same h
 
     pub meta-refused : {g h : Refusal} {r : PositionV3Read} → x ≡ ma.Refused g → h ≡ metadataRefusal x → r ≡ refusedV3 h → r ≡ readV3At b p
     meta-refused m w z =
-        z ∙ stopped-read (metadata-stopped b p (o .room) (block-stopped b (frontOf b p .metadata) (frontOf b p .start) (frontOf b p .stop) (p + 32) here same m w))
+        z ∙ stopped-read (metadata-stopped b p (o .room) (block-stopped b (frontOf b p .metadata) (frontOf b p .flags .start) (frontOf b p .flags .stop) (p + 32) here same m w))
 
   module _ {m : MaybeMetadata} {q : ℕ} (one : Meta b p m q) where
     pub behind-meta : Place b q
     behind-meta = record { short = l .short; within = one .passed .within }
 
-    module _ {x : PartAnswer} (e : x ≡ ephemeridesAt b (k .accel) q) where
-      pub list-told : {t : Part} {r : ℕ} → x ≡ pa.Read t r → Listed b (frontOf b p .accel) q t r
-      list-told h = listed-told b (frontOf b p .accel) q behind-meta (e ∙ (λ i. ephemeridesAt b (v i .accel) q)) h
+    module _ {x : PartAnswer} (e : x ≡ ephemeridesAt b (k .flags .accel) q) where
+      pub list-told : {t : Part} {r : ℕ} → x ≡ pa.Read t r → Listed b (frontOf b p .flags .accel) q t r
+      list-told h = listed-told b (frontOf b p .flags .accel) q behind-meta (e ∙ (λ i. ephemeridesAt b (v i .flags .accel) q)) h
 
       pub list-refused : {g h : Refusal} {r : PositionV3Read} → x ≡ pa.Refused g → h ≡ partRefusal x → r ≡ refusedV3 h → r ≡ readV3At b p
       list-refused h w z =
-          z ∙ stopped-read (list-stopped b p (o .room) one (listed-stopped b (frontOf b p .accel) q behind-meta (e ∙ (λ i. ephemeridesAt b (v i .accel) q)) h w))
+          z ∙ stopped-read (list-stopped b p (o .room) one (listed-stopped b (frontOf b p .flags .accel) q behind-meta (e ∙ (λ i. ephemeridesAt b (v i .flags .accel) q)) h w))
 
-    module _ {t : Part} {r : ℕ} (two : Listed b (frontOf b p .accel) q t r) where
+    module _ {t : Part} {r : ℕ} (two : Listed b (frontOf b p .flags .accel) q t r) where
       pub behind-list : Place b r
       behind-list = record { short = l .short; within = two .passed .within }
 
-      module _ {x : CovarianceAnswer} (e : x ≡ covarianceAt b (k .covariance) r) where
-        pub closing-told : {c : MaybeCovariance} {s : ℕ} → x ≡ ca.Read c s → Closed b (frontOf b p .covariance) r c s
-        closing-told h = closed-told b (frontOf b p .covariance) r behind-list (e ∙ (λ i. covarianceAt b (v i .covariance) r)) h
+      module _ {x : CovarianceAnswer} (e : x ≡ covarianceAt b (k .flags .covariance) r) where
+        pub closing-told : {c : MaybeCovariance} {s : ℕ} → x ≡ ca.Read c s → Closed b (frontOf b p .flags .covariance) r c s
+        closing-told h = closed-told b (frontOf b p .flags .covariance) r behind-list (e ∙ (λ i. covarianceAt b (v i .flags .covariance) r)) h
 
         pub closing-refused : {g h : Refusal} {y : PositionV3Read} → x ≡ ca.Refused g → h ≡ covarianceRefusal x → y ≡ refusedV3 h → y ≡ readV3At b p
         closing-refused h w z =
             z ∙ stopped-read (closing-stopped b p (o .room) one two
-            (closed-stopped b (frontOf b p .covariance) r behind-list (e ∙ (λ i. covarianceAt b (v i .covariance) r)) h w))
+            (closed-stopped b (frontOf b p .flags .covariance) r behind-list (e ∙ (λ i. covarianceAt b (v i .flags .covariance) r)) h w))
 
-      module _ {c : MaybeCovariance} {s : ℕ} (three : Closed b (frontOf b p .covariance) r c s) where
-        pub tail : Tail b (k .covariance) s
+      module _ {c : MaybeCovariance} {s : ℕ} (three : Closed b (frontOf b p .flags .covariance) r c s) where
+        pub tail : Tail b (k .flags .covariance) s
         tail = rw v (tail-of b p (o .room) one two three l)
 
-        pub satellite-read : {w : List ℕ} → w ≡ elementsBefore b (k .covariance) s
+        pub satellite-read : {w : List ℕ} → w ≡ elementsBefore b (k .flags .covariance) s
             → record { answer = Entry (madeOf k m t c) s; «covariance_elements» = w } ≡ readV3At b p
         satellite-read h =
-            (λ i. record { answer = Entry (madeOf (v i) m t c) s; «covariance_elements» = (h ∙ ap (λ (z : Front). elementsBefore b (z .covariance) s) v) i })
+            (λ i. record { answer = Entry (madeOf (v i) m t c) s; «covariance_elements» = (h ∙ ap (λ (z : Front). elementsBefore b (z .flags .covariance) s) v) i })
             ∙ whole-read b p (o .room) one two three

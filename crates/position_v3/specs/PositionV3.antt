@@ -24,6 +24,9 @@ use Rattle.position_v3.specs.declared.PositionV3Satellite.{PositionV3Sat
 use Rattle.position_v3.specs.declared.PositionV3Answer.{PositionV3Answer}
 use Rattle.position_v3.specs.declared.PositionV3Answer.the-variants.{Entry, Refused}
 use Rattle.position_v3.specs.declared.PositionV3Read.{PositionV3Read}
+use Rattle.position_v3.specs.declared.Flags.{Flags}
+use Rattle.position_v3.specs.declared.FlagsAnswer.{FlagsAnswer}
+use Rattle.position_v3.specs.declared.FlagsAnswer.the-variants as fl
 use Rattle.position_v3.specs.declared.Front.{Front}
 use Rattle.position_v3.specs.declared.FrontAnswer.{FrontAnswer}
 use Rattle.position_v3.specs.declared.FrontAnswer.the-variants as fa
@@ -43,6 +46,11 @@ headerOf ts =
 
 unfoldable pub headerAt : List ℕ → HeaderAnswer
 headerAt b = read b 0 header 0 (λ ts q. ha.Header (headerOf ts) q) ha.Refused
+
+-- the refusal in an answer; zeros where there is none
+unfoldable pub headerRefusal : HeaderAnswer → Refusal
+headerRefusal (ha.Header k n) = refuse 0 0 0
+headerRefusal (ha.Refused f) = f
 
 -- ---- a satellite
 
@@ -64,6 +72,11 @@ satelliteV3Of p ts =
 unfoldable pub satelliteV3At : List ℕ → ℕ → PositionV3Answer
 satelliteV3At b p = read b 0 position3 p (λ ts q. Entry (satelliteV3Of p ts) q) Refused
 
+-- the refusal in an answer; zeros where there is none
+unfoldable pub satelliteV3Refusal : PositionV3Answer → Refusal
+satelliteV3Refusal (Entry k n) = refuse 0 0 0
+satelliteV3Refusal (Refused f) = f
+
 -- the covariance's elements: zeros where there is no covariance, and after a refusal
 unfoldable pub elementsV3At : List ℕ → ℕ → List ℕ
 elementsV3At b p = read b 0 position3 p (λ ts q. elementsBy (the "covariance_flag" ts) ts) (λ f. replicate 21 0)
@@ -77,17 +90,31 @@ refusedV3 f = record { answer = Refused f; «covariance_elements» = replicate 2
 
 -- ---- its parts
 
--- the id, the reserved bits and the flags, and then what follows by the flags
+-- the flags that a satellite keeps, and then what follows by them
+abbrev pub flags : (ℕ → ℕ → ℕ → ℕ → Syntax) → Syntax
+flags k = do
+  start ← bits "usable_start_time_flag" 1
+  stop ← bits "usable_stop_time_flag" 1
+  accel ← bits "ephemeris_accel_flag" 1
+  cov ← bits "covariance_flag" 1
+  k start stop accel cov
+
+-- the same behind the id, the reserved bits and the metadata's flag
 abbrev pub front : (ℕ → ℕ → ℕ → ℕ → ℕ → Syntax) → Syntax
 front k = do
   u "satellite_id" 24
   u "reserved_zero_future_use" 3
   meta ← bits "metadata_flag" 1
-  start ← bits "usable_start_time_flag" 1
-  stop ← bits "usable_stop_time_flag" 1
-  accel ← bits "ephemeris_accel_flag" 1
-  cov ← bits "covariance_flag" 1
-  k meta start stop accel cov
+  flags (k meta)
+
+abbrev pub flagsBy : List Field → Flags
+flagsBy ts =
+    record {
+      start = the "usable_start_time_flag" ts;
+      stop = the "usable_stop_time_flag" ts;
+      accel = the "ephemeris_accel_flag" ts;
+      covariance = the "covariance_flag" ts;
+    }
 
 abbrev pub frontBy : List Field → Front
 frontBy ts =
@@ -95,15 +122,20 @@ frontBy ts =
       «satellite_id» = the "satellite_id" ts;
       reserved = the "reserved_zero_future_use" ts;
       metadata = the "metadata_flag" ts;
-      start = the "usable_start_time_flag" ts;
-      stop = the "usable_stop_time_flag" ts;
-      accel = the "ephemeris_accel_flag" ts;
-      covariance = the "covariance_flag" ts;
+      flags = flagsBy ts;
     }
 
 -- read alone
+unfoldable pub flagsAt : List ℕ → ℕ → FlagsAnswer
+flagsAt b p = read b 0 (flags (λ _ _ _ _. end)) p (λ ts q. fl.Read (flagsBy ts) q) fl.Refused
+
 unfoldable pub frontAt : List ℕ → ℕ → FrontAnswer
 frontAt b p = read b 0 (front (λ _ _ _ _ _. end)) p (λ ts q. fa.Read (frontBy ts) q) fa.Refused
+
+-- the refusal in an answer; zeros where there is none
+unfoldable pub flagsRefusal : FlagsAnswer → Refusal
+flagsRefusal (fl.Read k n) = refuse 0 0 0
+flagsRefusal (fl.Refused f) = f
 
 unfoldable pub frontRefusal : FrontAnswer → Refusal
 frontRefusal (fa.Read k n) = refuse 0 0 0
@@ -116,10 +148,13 @@ frontOf b p =
       «satellite_id» = valueAt b p 24;
       reserved = valueAt b (p + 24) 3;
       metadata = valueAt b (p + 27) 1;
-      start = valueAt b (p + 28) 1;
-      stop = valueAt b (p + 29) 1;
-      accel = valueAt b (p + 30) 1;
-      covariance = valueAt b (p + 31) 1;
+      flags =
+          record {
+            start = valueAt b (p + 28) 1;
+            stop = valueAt b (p + 29) 1;
+            accel = valueAt b (p + 30) 1;
+            covariance = valueAt b (p + 31) 1;
+          };
     }
 
 -- a place at which a covariance ends, if its flag is 1

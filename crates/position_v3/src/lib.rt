@@ -3,7 +3,7 @@ ghost use mathlib.Core.Path.{_≡_};
 ghost use Prim.Native.Nat.{_%_, _≤_};
 ghost use lib.ListN.{length};
 ghost use Rattle.bits.specs.Read.{Place};
-ghost use Rattle.position_v3.specs.PositionV3.{headerAt, frontAt, frontRefusal, readV3At, refusedV3, elementsBefore, Tail};
+ghost use Rattle.position_v3.specs.PositionV3.{headerAt, headerRefusal, flagsAt, flagsRefusal, frontAt, frontRefusal, readV3At, refusedV3, satelliteV3Refusal, elementsBefore, Tail};
 use bits::Bits;
 use bits::read_u;
 use bits::refusal_of;
@@ -69,20 +69,61 @@ pub struct PositionV3Read {
     pub covariance_elements: [u32; 21],
 }
 
-// A satellite's fields in front of its metadata, the five flags as numbers.
-pub struct Front {
-    pub satellite_id: u32,
-    pub reserved: u8,
-    pub metadata: u8,
+// The four flags that a satellite keeps, as numbers.
+pub struct Flags {
     pub start: u8,
     pub stop: u8,
     pub accel: u8,
     pub covariance: u8,
 }
 
+pub enum FlagsAnswer {
+    Read { flags: Flags, next: usize },
+    Refused(Refusal),
+}
+
+// A satellite's fields in front of its metadata.
+pub struct Front {
+    pub satellite_id: u32,
+    pub reserved: u8,
+    pub metadata: u8,
+    pub flags: Flags,
+}
+
 pub enum FrontAnswer {
     Read { front: Front, next: usize },
     Refused(Refusal),
+}
+
+// The refusal in an answer; zeros where the answer is a header.
+pub fn header_refusal(r: HeaderAnswer) -> Refusal
+    ensures { λ f. ⌜ f ≡ headerRefusal r ⌝ }
+{
+    match r {
+        HeaderAnswer::Header { header: _, next: _ } => Refusal {
+            number: 0,
+            need: 0,
+            have: 0,
+        },
+        HeaderAnswer::Refused(f) => f,
+    }
+}
+
+// The refusal in an answer; zeros where the answer is a satellite.
+pub fn satellite_v3_refusal(r: PositionV3Answer) -> Refusal
+    ensures { λ f. ⌜ f ≡ satelliteV3Refusal r ⌝ }
+{
+    match r {
+        PositionV3Answer::Entry {
+            satellite: _,
+            next: _,
+        } => Refusal {
+            number: 0,
+            need: 0,
+            have: 0,
+        },
+        PositionV3Answer::Refused(f) => f,
+    }
 }
 
 // Reads the header of a body.
@@ -120,6 +161,19 @@ pub fn read_header(s: &[u8]) -> HeaderAnswer
 }
 
 // The refusal in an answer; zeros where the answer is no refusal.
+fn flags_refusal(r: FlagsAnswer) -> Refusal
+    ensures { λ f. ⌜ f ≡ flagsRefusal r ⌝ }
+{
+    match r {
+        FlagsAnswer::Read { flags: _, next: _ } => Refusal {
+            number: 0,
+            need: 0,
+            have: 0,
+        },
+        FlagsAnswer::Refused(f) => f,
+    }
+}
+
 fn front_refusal(r: FrontAnswer) -> Refusal
     ensures { λ f. ⌜ f ≡ frontRefusal r ⌝ }
 {
@@ -133,10 +187,39 @@ fn front_refusal(r: FrontAnswer) -> Refusal
     }
 }
 
-// Reads a satellite's id, reserved bits and flags. A satellite starts on a byte, so the flags are there where the reserved bits are.
+// Reads the four flags.
+fn read_flags(s: &[u8], at: usize) -> FlagsAnswer
+    requires { ⌜ Place (now s) at ⌝ }
+    ensures { λ r. ⌜ r ≡ flagsAt (now (s .entry)) at ⌝ }
+{
+    let r = read_u(s, at, 1);
+    let Bits::Value { value: start, next } = r else {
+        return FlagsAnswer::Refused(refusal_of(r));
+    };
+    let r = read_u(s, next, 1);
+    let Bits::Value { value: stop, next } = r else {
+        return FlagsAnswer::Refused(refusal_of(r));
+    };
+    let r = read_u(s, next, 1);
+    let Bits::Value { value: accel, next } = r else {
+        return FlagsAnswer::Refused(refusal_of(r));
+    };
+    let r = read_u(s, next, 1);
+    let Bits::Value { value: cov, next } = r else {
+        return FlagsAnswer::Refused(refusal_of(r));
+    };
+    let flags = Flags {
+        start: start as u8,
+        stop: stop as u8,
+        accel: accel as u8,
+        covariance: cov as u8,
+    };
+    FlagsAnswer::Read { flags, next }
+}
+
+// Reads a satellite's id, reserved bits and flags.
 fn read_front(s: &[u8], at: usize) -> FrontAnswer
     requires { ⌜ Place (now s) at ⌝ }
-    requires { ⌜ at % 8 ≡ 0 ⌝ }
     ensures { λ r. ⌜ r ≡ frontAt (now (s .entry)) at ⌝ }
 {
     let r = read_u(s, at, 24);
@@ -144,25 +227,24 @@ fn read_front(s: &[u8], at: usize) -> FrontAnswer
         return FrontAnswer::Refused(refusal_of(r));
     };
     let r = read_u(s, next, 3);
-    let Bits::Value {
-        value: reserved,
-        next,
-    } = r
-    else {
+    let Bits::Value { value: spare, next } = r else {
         return FrontAnswer::Refused(refusal_of(r));
     };
-    FrontAnswer::Read {
-        front: Front {
-            satellite_id: id as u32,
-            reserved: reserved as u8,
-            metadata: value_at(s, at + 27, 1) as u8,
-            start: value_at(s, at + 28, 1) as u8,
-            stop: value_at(s, at + 29, 1) as u8,
-            accel: value_at(s, at + 30, 1) as u8,
-            covariance: value_at(s, at + 31, 1) as u8,
-        },
-        next: at + 32,
-    }
+    let r = read_u(s, next, 1);
+    let Bits::Value { value: meta, next } = r else {
+        return FrontAnswer::Refused(refusal_of(r));
+    };
+    let r = read_flags(s, next);
+    let FlagsAnswer::Read { flags, next } = r else {
+        return FrontAnswer::Refused(flags_refusal(r));
+    };
+    let front = Front {
+        satellite_id: id as u32,
+        reserved: spare as u8,
+        metadata: meta as u8,
+        flags,
+    };
+    FrontAnswer::Read { front, next }
 }
 
 // A refusal beside no elements.
@@ -196,24 +278,24 @@ pub fn read_satellite_v3(s: &[u8], at: usize) -> PositionV3Read
     let FrontAnswer::Read { front, next } = r else {
         return refused(front_refusal(r));
     };
-    let m = read_metadata(s, next, front.metadata, front.start, front.stop);
+    let m = read_metadata(s, next, front.metadata, front.flags.start, front.flags.stop);
     let MetadataAnswer::Read { metadata, next } = m else {
         return refused(metadata_refusal(m));
     };
-    let e = read_ephemerides(s, next, front.accel);
+    let e = read_ephemerides(s, next, front.flags.accel);
     let PartAnswer::Read { part, next } = e else {
         return refused(part_refusal(e));
     };
-    let c = read_covariance(s, next, front.covariance);
+    let c = read_covariance(s, next, front.flags.covariance);
     let CovarianceAnswer::Read { covariance, next } = c else {
         return refused(covariance_refusal(c));
     };
     let satellite = PositionV3Satellite {
         satellite_id: front.satellite_id,
-        usable_start_time_flag: front.start == 1,
-        usable_stop_time_flag: front.stop == 1,
-        ephemeris_accel_flag: front.accel == 1,
-        covariance_flag: front.covariance == 1,
+        usable_start_time_flag: front.flags.start == 1,
+        usable_stop_time_flag: front.flags.stop == 1,
+        ephemeris_accel_flag: front.flags.accel == 1,
+        covariance_flag: front.flags.covariance == 1,
         metadata,
         ephemeris_data: part,
         covariance,
@@ -221,6 +303,6 @@ pub fn read_satellite_v3(s: &[u8], at: usize) -> PositionV3Read
     };
     PositionV3Read {
         answer: PositionV3Answer::Entry { satellite, next },
-        covariance_elements: elements_before(s, next, front.covariance),
+        covariance_elements: elements_before(s, next, front.flags.covariance),
     }
 }

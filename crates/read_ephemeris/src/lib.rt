@@ -1,10 +1,11 @@
 // The header and the entries of id 4, gone through in a ledger and laid as a body on the way: runs of fields by their marks.
-ghost use Prim.Native.Nat.{ℕ};
+ghost use mathlib.Core.Path.{_≡_};
+ghost use Prim.Native.Nat.{ℕ, _+_, _%_};
 ghost use Rattle.format.specs.Syntax.{Name, Syntax, end};
-ghost use Rattle.format.specs.Tables.{header, usable, metadata, covariance, ephemerides, position3};
+ghost use Rattle.format.specs.Tables.{times, header, usable, metadata, ephemeris, covariance, ephemerides, position3};
 ghost use Rattle.read_runs.specs.Came.{LedgerPlaced, Laid};
 ghost use Rattle.read_ephemeris.specs.Flagged.{flagged};
-use read_runs::read_counted;
+use read_runs::byte_of;
 use read_runs::read_run;
 use runs::Step;
 use runs::marks;
@@ -62,7 +63,49 @@ fn read_covariance(ledger: &[u8], place: usize, flag: u64, out: &mut [u8], at: u
     Step::Done { at, place, last: 0 }
 }
 
-// The ephemeris entries, with or without acceleration, and the covariance.
+// One ephemeris entry, laid from the buffer's start on; with acceleration where its flag is set.
+fn read_entry(ledger: &[u8], place: usize, accel: u64, out: &mut [u8]) -> Step
+    requires { ⌜ LedgerPlaced (now ledger) place 0 ⌝ }
+    ensures { λ r. ⌜ ((s : Syntax) → Laid (now (ledger .entry)) (ephemeris accel s) place 0 (now (out .entry)) (λ _. s) (now (out .exit)) r) ⌝ }
+{
+    if accel == 1 {
+        return read_run(ledger, place, &marks::ACCELERATED, out, 0);
+    }
+    read_run(ledger, place, &marks::MOTION, out, 0)
+}
+
+// So many ephemeris entries, each laid in the part of the buffer that starts where the last one ended.
+fn read_each(ledger: &[u8], place: usize, accel: u64, count: u64, out: &mut [u8], at: usize) -> Step
+    requires { ⌜ LedgerPlaced (now ledger) place at ⌝ }
+    requires { ⌜ at % 8 ≡ 0 ⌝ }
+    ensures { λ r. ⌜ ((s : Syntax) → Laid (now (ledger .entry)) (times count (ephemeris accel) s) place at (now (out .entry)) (λ _. s) (now (out .exit)) r) ⌝ }
+{
+    let mut here = at;
+    let mut there = place;
+    let mut i: u64 = 0;
+    while i < count {
+        let from = byte_of(here, out.len());
+        let entry = read_entry(ledger, there, accel, &mut out[from..]);
+        let Step::Done {
+            at: bits,
+            place: p,
+            last: _,
+        } = entry
+        else {
+            return entry;
+        };
+        here += bits;
+        there = p;
+        i += 1;
+    }
+    Step::Done {
+        at: here,
+        place: there,
+        last: 0,
+    }
+}
+
+// The ephemeris entries behind their count, and the covariance.
 fn read_ephemerides(
     ledger: &[u8],
     place: usize,
@@ -72,6 +115,7 @@ fn read_ephemerides(
     at: usize,
 ) -> Step
     requires { ⌜ LedgerPlaced (now ledger) place at ⌝ }
+    requires { ⌜ at % 8 ≡ 0 ⌝ }
     ensures { λ r. ⌜ Laid (now (ledger .entry)) (ephemerides accel cov) place at (now (out .entry)) (λ _. end) (now (out .exit)) r ⌝ }
 {
     let head = read_run(ledger, place, &marks::EPHEMERIS_COUNT, out, at);
@@ -83,21 +127,14 @@ fn read_ephemerides(
     else {
         return head;
     };
-    if accel == 1 {
-        let moved = read_counted(ledger, place, &marks::ACCELERATED, count, out, at);
-        let Step::Done { at, place, .. } = moved else {
-            return moved;
-        };
-        return read_covariance(ledger, place, cov, out, at);
-    }
-    let still = read_counted(ledger, place, &marks::MOTION, count, out, at);
-    let Step::Done { at, place, .. } = still else {
-        return still;
+    let each = read_each(ledger, place, accel, count, out, at);
+    let Step::Done { at, place, .. } = each else {
+        return each;
     };
     read_covariance(ledger, place, cov, out, at)
 }
 
-// The last two flags, the metadata if there is one, and the ephemeris entries.
+// The last two flags, with which a byte is full, the metadata if there is one, and the ephemeris entries.
 fn read_flagged(
     ledger: &[u8],
     place: usize,
@@ -108,6 +145,7 @@ fn read_flagged(
     at: usize,
 ) -> Step
     requires { ⌜ LedgerPlaced (now ledger) place at ⌝ }
+    requires { ⌜ (at + 2) % 8 ≡ 0 ⌝ }
     ensures { λ r. ⌜ Laid (now (ledger .entry)) (flagged meta start stop) place at (now (out .entry)) (λ _. end) (now (out .exit)) r ⌝ }
 {
     let fourth = read_run(ledger, place, &marks::FLAG, out, at);
@@ -138,9 +176,10 @@ fn read_flagged(
     read_ephemerides(ledger, place, accel, cov, out, at)
 }
 
-// A satellite's entry. Each flag is a run of its own, since what follows asks for all of them.
+// A satellite's entry, which starts on a byte. Each flag is a run of its own, since what follows asks for all of them.
 pub fn read_position3(ledger: &[u8], place: usize, out: &mut [u8], at: usize) -> Step
     requires { ⌜ LedgerPlaced (now ledger) place at ⌝ }
+    requires { ⌜ at % 8 ≡ 0 ⌝ }
     ensures { λ r. ⌜ Laid (now (ledger .entry)) position3 place at (now (out .entry)) (λ _. end) (now (out .exit)) r ⌝ }
 {
     let head = read_run(ledger, place, &marks::SATELLITE3, out, at);

@@ -1,61 +1,24 @@
 -- A plan laid: its length in front of the fields that it counts.
 -- Assumes nothing.
-use Prim.Native.Nat.{ℕ, _+_, _-_, _*_, _/_, _%_, _^_, _≤_}
+use Prim.Native.Nat.{ℕ, _+_, _-_, _*_, _/_, _≤_}
 use mathlib.Core.Path.{_≡_, sym, ap, _∙_, subst}
 use mathlib.Core.List.{List, [], _∷_, _++_}
 use native.Mathlib.Omega.{arith}
-use lib.Dec.{eqb}
-use lib.ListN.{length, take, drop, length-append, length-drop}
-use lib.Seq.{drop-drop}
-use Rattle.format.specs.Digits.{digits, value, bitsOf, splice}
-use Rattle.format.specs.Syntax.{Name, Syntax, end, plan, Field, num, len, Parse, got, push}
+use lib.ListN.{length, drop, length-append}
+use Rattle.format.specs.Digits.{digits, bitsOf, splice}
+use Rattle.format.specs.Syntax.{Name, Syntax, end, plan, Field, len, Parse, got, push}
 use Rattle.format.specs.Body.{plain}
-use Rattle.format.specs.Ledger.{widened, readLedger}
+use Rattle.format.specs.Ledger.{readLedger}
 use Rattle.format.specs.declared.Refusal.{Refusal}
 use Rattle.format.proofs.DigitLaws.{length-digits, length-bits}
-use Rattle.format.proofs.ParseLaws.{push-got, grant-got}
-use Rattle.format.proofs.Good.{plain-nil, plain-num}
 use Rattle.bits.proofs.Splices.{splice-front, splice-splice}
-use Rattle.runs.specs.Lines.{signOf, widthOf, sizeOf, run, widthsOf, sizesOf, headName, tailNames}
 use Rattle.runs.specs.declared.Step.{Step}
 use Rattle.runs.specs.declared.Step.the-variants.{Done, Refused}
 use Rattle.write_runs.specs.Went.{pushes}
 use Rattle.write_runs.proofs.WentLaws.{pushes-append, pushes-refused, pushes-got}
 use Rattle.read_runs.specs.Came.{Came, Halted, Laid}
-use Rattle.read_runs.proofs.CameLaws.{done, stopped}
+use Rattle.read_runs.proofs.CameLaws.{stopped}
 use Rattle.read_plans.specs.Taken.{Took, Taken, SparedTo, Spared}
-
--- ---- how far a run goes
-
-run-got : (n : ℕ) (nms : List Name) (v : ℕ) (marks bs : List ℕ) {ts : List Field} {rest : List ℕ} → readLedger n (run nms v marks (λ _. end)) bs ≡ got ts rest
-    → (length (plain ts) ≡ widthsOf marks) × (sizesOf marks ≤ length bs) × (rest ≡ drop (sizesOf marks) bs)
-unfolding readLedger run sizeOf
-run-got n nms v [] bs {ts} {rest} q =
-    let e : ts ≡ [] = cc in
-    let d : rest ≡ bs = cc in
-    (rw e plain-nil, omega arith, d)
-run-got n nms v (c ∷ cs) bs {ts} {rest} q =
-    let z : ℕ = sizeOf c in
-    let x : ℕ = value 256 (take z bs) in
-    let y : ℕ = x % 2 ^ widthOf c in
-    let t : Field = num (signOf c) (headName nms) (widthOf c) y in
-    let p = grant-got n z (eqb (widened (signOf c) (widthOf c) y) x) bs (push t (readLedger n (run (tailNames nms) y cs (λ _. end)) (drop z bs))) q in
-    let o = push-got t (readLedger n (run (tailNames nms) y cs (λ _. end)) (drop z bs)) (p .2) in
-    let r = run-got n (tailNames nms) y cs (drop z bs) (o .1) in (
-      rw (o .2) (plain-num (signOf c) (headName nms) (widthOf c) y (o .0) ∙ ap (λ (k : ℕ). widthOf c + k) (r .0)),
-      omega (arith, p .0, r .1, length-drop z bs),
-      r .2 ∙ drop-drop (sizesOf cs) z bs,
-    )
-
-pub run-moved : (marks : List ℕ) {l out out′ : List ℕ} {place at a p v : ℕ} {r : Step} → r ≡ Done a p v → place ≤ length l
-    → ((nms : List Name) (k : ℕ → Syntax) → Laid l (run nms 0 marks k) place at out k out′ r) → (a ≡ at + widthsOf marks) × (p ≡ place + sizesOf marks)
-unfolding readLedger
-run-moved marks {l} {out} {out′} {place} {at} {a} {p} q h y =
-    let w : Came l (run [] 0 marks (λ _. end)) place at out end p a out′ = done q (y [] (λ _. end)) in
-    let g = run-got (length l) [] 0 marks (drop place l) (w .reads ∙ pushes-got (w .ts) (drop p l)) in (
-      omega (arith, w .size, g .0),
-      omega (arith, g .1, ap length (g .2), w .within, length-drop p l, length-drop place l, length-drop (sizesOf marks) (drop place l)),
-    )
 
 -- ---- entries
 

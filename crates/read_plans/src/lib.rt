@@ -2,9 +2,10 @@
 ghost use mathlib.Core.Path.{_≡_};
 ghost use Prim.Native.Nat.{_+_, _*_, _≤_, _<_};
 ghost use lib.ListN.{length};
-ghost use Rattle.format.specs.Digits.{bitsOf, splice};
+ghost use Rattle.format.specs.Digits.{bitsOf};
 ghost use Rattle.format.specs.Syntax.{Name, Syntax, end, slots, raw};
 ghost use Rattle.format.specs.Tables.{bitmap, mode, hopping, beamhopping};
+ghost use Rattle.runs.specs.Steps.{stored};
 ghost use Rattle.read_runs.specs.Came.{LedgerPlaced, Laid};
 ghost use Rattle.read_plans.specs.Taken.{Taken, Spared};
 use bits::get_be;
@@ -16,10 +17,10 @@ use runs::Step;
 use runs::copy_bytes;
 use runs::marks;
 
-// Stores bytes at a bit place where there is room for them; at a byte place they are copied.
+// Stores bytes at a bit place where there is room for them, and else leaves the buffer as it is; at a byte place they are copied.
 fn lay_bytes(bytes: &[u8], out: &mut [u8], at: usize)
     requires { ⌜ at + 8 * length (now bytes) ≤ 600000 ⌝ }
-    ensures { λ _. ⌜ (at + 8 * length (now (bytes .entry)) ≤ 8 * length (now (out .entry)) → bitsOf (now (out .exit)) ≡ splice (bitsOf (now (out .entry))) at (bitsOf (now (bytes .entry)))) ⌝ }
+    ensures { λ _. ⌜ bitsOf (now (out .exit)) ≡ stored (bitsOf (now (out .entry))) at (bitsOf (now (bytes .entry))) ⌝ }
 {
     if out.len() < (at + 8 * bytes.len() + 7) / 8 {
         return;

@@ -2,14 +2,14 @@
 // Where the buffer is too short it may keep anything, and the answer is the same: so the size is asked for with an empty one.
 ghost use mathlib.Core.Path.{_≡_};
 ghost use mathlib.Core.List.{List};
-ghost use Prim.Native.Nat.{ℕ, _+_, _-_, _*_, _^_, _≤_, _<_};
+ghost use Prim.Native.Nat.{ℕ, _-_, _/_, _^_, _≤_, _<_};
 ghost use lib.Dec.{T};
 ghost use lib.ListN.{length, getD};
-ghost use Rattle.format.specs.Digits.{digits, bitsOf, splice};
+ghost use Rattle.format.specs.Digits.{digits, bitsOf};
 ghost use Rattle.format.specs.Syntax.{Name, Syntax};
 ghost use Rattle.format.specs.Tables.{times};
 ghost use Rattle.runs.specs.Lines.{widthOf, markOk, marksOk, line, run, runOf};
-ghost use Rattle.runs.specs.Steps.{lastOf};
+ghost use Rattle.runs.specs.Steps.{lastOf, stored};
 ghost use Rattle.read_runs.specs.Came.{LedgerPlaced, Laid};
 use bits::get_be;
 use bits::write_u;
@@ -19,19 +19,27 @@ use runs::low_of;
 use runs::shown_of;
 use runs::size_of;
 use runs::width_of;
+use write_runs::within;
 
-// Stores the low bits of v at a bit place where there is room for them.
+// Stores the low bits of v at a bit place where there is room for them; else the buffer stays as it is.
 pub fn lay(out: &mut [u8], at: usize, width: usize, v: u64)
     requires { ⌜ (at ≤ 600000) × (1 ≤ width) × (width ≤ 64) ⌝ }
-    ensures { λ _. ⌜ (at + width ≤ 8 * length (now (out .entry)) → bitsOf (now (out .exit)) ≡ splice (bitsOf (now (out .entry))) at (digits 2 width v)) ⌝ }
+    ensures { λ _. ⌜ bitsOf (now (out .exit)) ≡ stored (bitsOf (now (out .entry))) at (digits 2 width v) ⌝ }
 {
     if (at + width + 7) / 8 <= out.len() {
         write_u(out, at, width, v);
     }
 }
 
+// The byte that a bit place is in, within a buffer of n bytes, or the buffer's end.
+pub fn byte_of(at: usize, n: usize) -> usize
+    ensures { λ r. ⌜ (r ≤ n) × (at / 8 ≤ n → r ≡ at / 8) ⌝ }
+{
+    within(at / 8, n)
+}
+
 // One field.
-pub fn read_line(ledger: &[u8], place: usize, mark: u8, out: &mut [u8], at: usize) -> Step
+fn read_line(ledger: &[u8], place: usize, mark: u8, out: &mut [u8], at: usize) -> Step
     requires { ⌜ LedgerPlaced (now ledger) place at ⌝ }
     requires { ⌜ T (markOk mark) ⌝ }
     ensures { λ r. ⌜ ((nm : Name) (k : ℕ → Syntax) → Laid (now (ledger .entry)) (line nm mark k) place at (now (out .entry)) k (now (out .exit)) r) ⌝ }

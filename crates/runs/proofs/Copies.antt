@@ -9,6 +9,8 @@ use lib.ListN.{length, take, getD, set}
 use lib.Seq.{take-suc, take-all, length-take-le}
 use Rattle.format.specs.Digits.{splice}
 use Rattle.bits.proofs.Splices.{length-splice, splice-nil, splice-splice, set-one}
+use Rattle.runs.specs.Steps.{stored}
+use Rattle.runs.proofs.Stores.{stored-fits}
 
 -- the first i elements are copied
 pub record Copying (l out₀ : List ℕ) (i : ℕ) (out : List ℕ) : Type 0 where
@@ -33,5 +35,5 @@ copy-next {l} {out₀} {out} {i} c h m =
       long = ap length list ∙ length-splice out₀ 0 (take (i + 1) l) (omega (arith, length-take-le (i + 1) l (omega arith)));
     }
 
-pub copy-all : {l out₀ out : List ℕ} {i : ℕ} → Copying l out₀ i out → length l ≤ i → out ≡ splice out₀ 0 l
-copy-all {l} {out₀} {i = i} c h = c .list ∙ ap (splice out₀ 0) (take-all i l h)
+pub copy-all : {l out₀ out : List ℕ} {i : ℕ} → Copying l out₀ i out → length l ≤ i → length l ≤ length out₀ → out ≡ stored out₀ 0 l
+copy-all {l} {out₀} {i = i} c h m = c .list ∙ ap (splice out₀ 0) (take-all i l h) ∙ sym (stored-fits out₀ 0 l (omega arith))

@@ -1,3 +1,4 @@
 pub mod MarkLaws
 pub mod Names
 pub mod Copies
+pub mod Stores

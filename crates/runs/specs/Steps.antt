@@ -1,6 +1,11 @@
 -- What a step over fields answers.
 -- Assumes nothing: these are definitions.
-use Prim.Native.Nat.{ℕ}
+use Prim.Native.Nat.{ℕ, _+_}
+use mathlib.Core.Bool.{cond}
+use mathlib.Core.List.{List}
+use lib.Dec.{leb}
+use lib.ListN.{length}
+use Rattle.format.specs.Digits.{splice}
 use Rattle.format.specs.Refusals.{refuse}
 use Rattle.format.specs.declared.Refusal.{Refusal}
 use Rattle.runs.specs.declared.Step.{Step}
@@ -15,3 +20,7 @@ refusalIn (Refused f) = f
 abbrev pub lastOf : Step → ℕ
 lastOf (Done at place v) = v
 lastOf (Refused f) = 0
+
+-- what storing xs from a place on leaves in a buffer: all of them where there is room, and else the buffer as it was
+unfoldable pub stored : List ℕ → ℕ → List ℕ → List ℕ
+stored out at xs = cond (leb (at + length xs) (length out)) (splice out at xs) out

@@ -1,11 +1,9 @@
 // What both directions of the ledger share: what a field is, by its mark in a run of fields; the answer of a step; bytes copied as they are.
 ghost use mathlib.Core.Path.{_≡_};
-ghost use Prim.Native.Nat.{_%_, _^_, _≤_, _<_};
+ghost use Prim.Native.Nat.{_%_, _^_, _<_};
 ghost use lib.Dec.{T};
-ghost use lib.ListN.{length};
-ghost use Rattle.format.specs.Digits.{splice};
 ghost use Rattle.runs.specs.Lines.{widthOf, sizeOf, shownOf, markOk};
-ghost use Rattle.runs.specs.Steps.{refusalIn};
+ghost use Rattle.runs.specs.Steps.{refusalIn, stored};
 use format::Refusal;
 
 pub mod marks;
@@ -88,9 +86,9 @@ pub fn low_of(mark: u8, x: u64) -> u64
     (x << rest) >> rest
 }
 
-// Copies bytes as they are to the buffer's start, where there is room for all of them.
+// Copies bytes as they are to the buffer's start, where there is room for all of them; else the buffer stays as it was.
 pub fn copy_bytes(bytes: &[u8], out: &mut [u8])
-    ensures { λ _. ⌜ (length (now (bytes .entry)) ≤ length (now (out .entry)) → now (out .exit) ≡ splice (now (out .entry)) 0 (now (bytes .entry))) ⌝ }
+    ensures { λ _. ⌜ now (out .exit) ≡ stored (now (out .entry)) 0 (now (bytes .entry)) ⌝ }
 {
     let n = bytes.len();
     if n <= out.len() {

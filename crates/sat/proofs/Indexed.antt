@@ -18,24 +18,24 @@ use Rattle.sat.specs.declared.EntryAnswer.{EntryAnswer}
 use Rattle.sat.specs.declared.EntryAnswer.the-variants.{None, Refused}
 use Rattle.sat.proofs.Made.{walked-on, walked-off}
 
-module _ (id : ℕ) (b : List ℕ) (i : ℕ) {w : Walked} (h : w ≡ seek i walked.Entries walked.Refused (bodyStarts id b)) where
+module _ (id : ℕ) (b : List ℕ) (i : ℕ) {w : Walked} (h : w ≡ seek b i walked.Entries walked.Refused (bodyStarts id b)) where
   pub entry-refused : {f g : Refusal} → w ≡ walked.Refused f → g ≡ walkRefusal w → record { answer = Refused g; «covariance_elements» = replicate 21 0 } ≡ entryOf id b i
   unfolding entryOf
   entry-refused {f} {g} m v = λ j. record {
-    answer = walked-off {x = Refused g} i (λ n p. cond (ltb i n) (typedAt id b p) None) Refused (bodyStarts id b) h m v refl j;
-    «covariance_elements» = walked-off {x = replicate 21 0} i (λ n p. cond (ltb i n) (elementsFor id b p) (replicate 21 0)) (λ f. replicate 21 0) (bodyStarts id b) h m v refl j;
+    answer = walked-off {x = Refused g} b i (λ n p e. cond (ltb i n) (typedAt id b p) None) Refused (bodyStarts id b) h m v refl j;
+    «covariance_elements» = walked-off {x = replicate 21 0} b i (λ n p e. cond (ltb i n) (elementsFor id b p) (replicate 21 0)) (λ f. replicate 21 0) (bodyStarts id b) h m v refl j;
   }
 
-  pub entry-none : {n p : ℕ} → w ≡ walked.Entries n p → n ≤ i → record { answer = None; «covariance_elements» = replicate 21 0 } ≡ entryOf id b i
+  pub entry-none : {n p e : ℕ} → w ≡ walked.Entries n p e → n ≤ i → record { answer = None; «covariance_elements» = replicate 21 0 } ≡ entryOf id b i
   unfolding entryOf
-  entry-none {n} {p} m k = λ j. record {
-    answer = walked-on {x = None} i (λ n p. cond (ltb i n) (typedAt id b p) None) Refused (bodyStarts id b) h m (not-below _ _ k refl) j;
-    «covariance_elements» = walked-on {x = replicate 21 0} i (λ n p. cond (ltb i n) (elementsFor id b p) (replicate 21 0)) (λ f. replicate 21 0) (bodyStarts id b) h m (not-below _ _ k refl) j;
+  entry-none {n} {p} {e} m k = λ j. record {
+    answer = walked-on {x = None} b i (λ n p e. cond (ltb i n) (typedAt id b p) None) Refused (bodyStarts id b) h m (not-below _ _ k refl) j;
+    «covariance_elements» = walked-on {x = replicate 21 0} b i (λ n p e. cond (ltb i n) (elementsFor id b p) (replicate 21 0)) (λ f. replicate 21 0) (bodyStarts id b) h m (not-below _ _ k refl) j;
   }
 
-  pub entry-found : {n p : ℕ} (x : EntryAnswer) (ys : List ℕ) → w ≡ walked.Entries n p → i < n → x ≡ typedAt id b p → ys ≡ elementsFor id b p → record { answer = x; «covariance_elements» = ys } ≡ entryOf id b i
+  pub entry-found : {n p e : ℕ} (x : EntryAnswer) (ys : List ℕ) → w ≡ walked.Entries n p e → i < n → x ≡ typedAt id b p → ys ≡ elementsFor id b p → record { answer = x; «covariance_elements» = ys } ≡ entryOf id b i
   unfolding entryOf
-  entry-found {n} {p} x ys m k q r = λ j. record {
-    answer = walked-on {x = x} i (λ n p. cond (ltb i n) (typedAt id b p) None) Refused (bodyStarts id b) h m (below _ _ k q) j;
-    «covariance_elements» = walked-on {x = ys} i (λ n p. cond (ltb i n) (elementsFor id b p) (replicate 21 0)) (λ f. replicate 21 0) (bodyStarts id b) h m (below _ _ k r) j;
+  entry-found {n} {p} {e} x ys m k q r = λ j. record {
+    answer = walked-on {x = x} b i (λ n p e. cond (ltb i n) (typedAt id b p) None) Refused (bodyStarts id b) h m (below _ _ k q) j;
+    «covariance_elements» = walked-on {x = ys} b i (λ n p e. cond (ltb i n) (elementsFor id b p) (replicate 21 0)) (λ f. replicate 21 0) (bodyStarts id b) h m (below _ _ k r) j;
   }

@@ -1,2 +1,3 @@
 pub mod Made
 pub mod Indexed
+pub mod BodyLaws

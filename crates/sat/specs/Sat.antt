@@ -8,6 +8,7 @@ use lib.ListN.{length, replicate}
 use Rattle.format.specs.Tables as tables
 use Rattle.format.specs.Whole.{bodyStarts}
 use Rattle.format.specs.At.{read, seek, entryIn}
+use Rattle.parts.specs.declared.Part.{Part}
 use Rattle.position.specs.Satellite.{satelliteOf}
 use Rattle.fragment.specs.Fragment.{fragmentOf}
 use Rattle.association.specs.Association.{associationOf}
@@ -24,12 +25,16 @@ use Rattle.sat.specs.declared.EntryRead.{EntryRead}
 
 -- the number of entries
 unfoldable pub countOf : ℕ → List ℕ → CountAnswer
-countOf id b = seek 0 (λ n p. count.Entries n) count.Refused (bodyStarts id b)
+countOf id b = seek b 0 (λ n p e. count.Entries n) count.Refused (bodyStarts id b)
 
 -- the header, once the whole body reads
 unfoldable pub headerOfBody : ℕ → List ℕ → BodyHeader
 headerOfBody id b =
-    seek 0 (λ n p. cond (eqb id 4) (read b 0 tables.header 0 (λ ts q. head.Header (headerOf ts)) head.Refused) head.None) head.Refused (bodyStarts id b)
+    seek b 0 (λ n p e. cond (eqb id 4) (read b 0 tables.header 0 (λ ts q. head.Header (headerOf ts)) head.Refused) head.None) head.Refused (bodyStarts id b)
+
+-- a raw body, whole
+abbrev pub rawPart : List ℕ → Part
+rawPart b = record { start = 0; length = length b; count = length b }
 
 -- the entry of a table at a bit place of a body
 unfoldable pub typedAt : ℕ → List ℕ → ℕ → EntryAnswer
@@ -38,7 +43,7 @@ typedAt (suc zero) b p = read b 0 tables.fragment p (λ ts q. Entry (CellFragmen
 typedAt (suc (suc zero)) b p = read b 0 tables.association p (λ ts q. Entry (TimeAssociation (associationOf ts))) Refused
 typedAt (suc (suc (suc zero))) b p = read b 0 tables.beamhopping p (λ ts q. Entry (BeamhoppingTimePlan (planOf b p ts))) Refused
 typedAt (suc (suc (suc (suc zero)))) b p = read b 0 tables.position3 p (λ ts q. Entry (PositionV3 (satelliteV3Of p ts))) Refused
-typedAt (suc (suc (suc (suc (suc n))))) b p = Entry (Raw (record { start = 0; length = length b; count = length b }))
+typedAt (suc (suc (suc (suc (suc n))))) b p = Entry (Raw (rawPart b))
 
 -- the covariance's elements beside it
 unfoldable pub elementsFor : ℕ → List ℕ → ℕ → List ℕ
@@ -47,6 +52,6 @@ elementsFor id b p = cond (eqb id 4) (elementsV3At b p) (replicate 21 0)
 -- the entry at an index, or none
 unfoldable pub entryOf : ℕ → List ℕ → ℕ → EntryRead
 entryOf id b i = record {
-  answer = entryIn i (λ p. typedAt id b p) None Refused (bodyStarts id b);
-  «covariance_elements» = entryIn i (λ p. elementsFor id b p) (replicate 21 0) (λ f. replicate 21 0) (bodyStarts id b);
+  answer = entryIn b i (λ p. typedAt id b p) None Refused (bodyStarts id b);
+  «covariance_elements» = entryIn b i (λ p. elementsFor id b p) (replicate 21 0) (λ f. replicate 21 0) (bodyStarts id b);
 }

@@ -21,10 +21,13 @@ use sat::BodyHeader;
 use sat::CountAnswer;
 use sat::EntryAnswer;
 use sat::EntryRead;
+use sat::SatBody;
+use sat::SatBodyAnswer;
 use sat::SatEntry;
 use sat::entry_at;
 use sat::entry_count;
 use sat::header;
+use sat::sat_body_parse_entries;
 
 // The heading, the fields or the refusal, and an empty line.
 pub fn show_case(out: &mut [u8; 8192], used: usize, id: u8, body: &[u8]) -> usize {
@@ -38,15 +41,15 @@ pub fn show_case(out: &mut [u8; 8192], used: usize, id: u8, body: &[u8]) -> usiz
 }
 
 fn show_body(out: &mut [u8; 8192], used: usize, id: u8, body: &[u8]) -> usize {
-    let counted = entry_count(id, body);
-    match counted {
-        CountAnswer::Entries(count) => {
+    let read = sat_body_parse_entries(id, body);
+    match read {
+        SatBodyAnswer::Body(whole) => {
             let used = show_header(out, used, id, body);
-            let used = show_count(out, used, id, count);
-            let used = show_entries(out, used, id, body, count);
+            let used = show_count(out, used, id, list_length(whole));
+            let used = show_entries(out, used, id, body, entries_in(id, body));
             show_ids(out, used, id, body)
         }
-        CountAnswer::Refused(f) => show_refusal(out, used, f),
+        SatBodyAnswer::Refused(f) => show_refusal(out, used, f),
     }
 }
 
@@ -87,12 +90,32 @@ fn list_path(id: u8) -> Path {
     root()
 }
 
+// How many entries the list of a body has; of a body that is no list nothing is shown.
+fn list_length(whole: SatBody) -> usize {
+    match whole {
+        SatBody::PositionV2(b) => b.satellites.count,
+        SatBody::CellFragment(b) => b.fragments.count,
+        SatBody::TimeAssociation(_) => 0,
+        SatBody::BeamhoppingTimePlan(b) => b.plans.count,
+        SatBody::PositionV3(b) => b.satellites.count,
+        SatBody::Raw(_) => 0,
+    }
+}
+
 fn show_count(out: &mut [u8; 8192], used: usize, id: u8, count: usize) -> usize {
     let at = list_path(id);
     if at.length == 0 {
         return used;
     }
     field(out, used, at, b"len", count as u64)
+}
+
+fn entries_in(id: u8, body: &[u8]) -> usize {
+    let counted = entry_count(id, body);
+    let CountAnswer::Entries(count) = counted else {
+        return 0;
+    };
+    count
 }
 
 fn show_entries(out: &mut [u8; 8192], used: usize, id: u8, body: &[u8], count: usize) -> usize {

@@ -114,7 +114,7 @@ fn put_path(out: &mut [u8; 8192], used: usize, at: Path) -> usize {
 }
 
 // A field's name, which may have a stem of its own, behind its path; and the blank in front of its value.
-pub fn title(out: &mut [u8; 8192], used: usize, at: Path, stem: &[u8], name: &[u8]) -> usize {
+fn title(out: &mut [u8; 8192], used: usize, at: Path, stem: &[u8], name: &[u8]) -> usize {
     let mut used = put_path(out, used, at);
     if at.length > 0 {
         used = put(out, used, b'.');

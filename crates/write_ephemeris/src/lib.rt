@@ -1,6 +1,5 @@
 // Table 4 written as a ledger: its header, and its satellites with metadata, ephemeris entries and covariance.
-ghost use mathlib.Core.Path.{_≡_};
-ghost use Prim.Native.Nat.{ℕ, _<_};
+ghost use Prim.Native.Nat.{ℕ};
 ghost use Rattle.format.specs.Syntax.{Name, Syntax, end};
 ghost use Rattle.format.specs.Tables.{times, header, usable, metadata, ephemeris, ephemerides, position3};
 ghost use Rattle.write_runs.specs.Went.{Placed, Ran};
@@ -8,6 +7,7 @@ ghost use Rattle.write_ephemeris.specs.Rest.{flagged, unflagged, ephemer
 use format::Refusal;
 use runs::Step;
 use runs::marks;
+use write_runs::within;
 use write_runs::write_needed;
 use write_runs::write_run;
 
@@ -28,14 +28,7 @@ pub fn write_header(body: &[u8], at: usize, out: &mut [u8], place: usize) -> Ste
 }
 
 // A usable time, where its flag is set.
-pub fn write_usable(
-    body: &[u8],
-    at: usize,
-    number: u8,
-    flag: u64,
-    out: &mut [u8],
-    place: usize,
-) -> Step
+fn write_usable(body: &[u8], at: usize, number: u8, flag: u64, out: &mut [u8], place: usize) -> Step
     requires { ⌜ Placed (now body) at place ⌝ }
     ensures { λ r. ⌜ ((nm : Name) (s : Syntax) → Ran (now (body .entry)) 0 (usable number nm flag s) at place (now (out .entry)) (λ _. s) (now (out .exit)) r) ⌝ }
 {
@@ -46,7 +39,7 @@ pub fn write_usable(
 }
 
 // The metadata, and the usable times behind them.
-pub fn write_metadata(
+fn write_metadata(
     body: &[u8],
     at: usize,
     start: u64,
@@ -69,7 +62,7 @@ pub fn write_metadata(
 }
 
 // One ephemeris entry, tested by itself.
-pub fn write_entry(body: &[u8], at: usize, accel: u64, out: &mut [u8], place: usize) -> Step
+fn write_entry(body: &[u8], at: usize, accel: u64, out: &mut [u8], place: usize) -> Step
     requires { ⌜ Placed (now body) at place ⌝ }
     ensures { λ r. ⌜ ((e : ℕ) (k : ℕ → Syntax) → Ran (now (body .entry)) e (ephemerisTo accel k) at place (now (out .entry)) k (now (out .exit)) r) ⌝ }
 {
@@ -79,15 +72,8 @@ pub fn write_entry(body: &[u8], at: usize, accel: u64, out: &mut [u8], place: us
     write_needed(body, at, 19, 248, &marks::MOTION, out, place)
 }
 
-// So many ephemeris entries.
-pub fn write_each(
-    body: &[u8],
-    at: usize,
-    accel: u64,
-    count: u64,
-    out: &mut [u8],
-    place: usize,
-) -> Step
+// So many ephemeris entries, each from where the last one ended.
+fn write_each(body: &[u8], at: usize, accel: u64, count: u64, out: &mut [u8], place: usize) -> Step
     requires { ⌜ Placed (now body) at place ⌝ }
     ensures { λ r. ⌜ ((s : Syntax) → Ran (now (body .entry)) 0 (times count (ephemeris accel) s) at place (now (out .entry)) (λ _. s) (now (out .exit)) r) ⌝ }
 {
@@ -95,12 +81,18 @@ pub fn write_each(
     let mut there = place;
     let mut i: u64 = 0;
     while i < count {
-        let step = write_entry(body, here, accel, out, there);
-        let Step::Done { at, place, .. } = step else {
-            return step;
+        let from = within(there, out.len());
+        let entry = write_entry(body, here, accel, &mut out[from..], 0);
+        let Step::Done {
+            at,
+            place: size,
+            ..
+        } = entry
+        else {
+            return entry;
         };
         here = at;
-        there = place;
+        there += size;
         i += 1;
     }
     Step::Done {
@@ -111,7 +103,7 @@ pub fn write_each(
 }
 
 // The ephemeris entries behind their count, and the covariance where its flag is set.
-pub fn write_ephemerides(
+fn write_ephemerides(
     body: &[u8],
     at: usize,
     accel: u64,
@@ -142,7 +134,7 @@ pub fn write_ephemerides(
 }
 
 // What follows a satellite's flags.
-pub fn write_flagged(
+fn write_flagged(
     body: &[u8],
     at: usize,
     meta: u64,
@@ -166,15 +158,8 @@ pub fn write_flagged(
     write_ephemerides(body, at, accel, cov, out, place)
 }
 
-// What follows a satellite's first two flags.
-pub fn write_unflagged(
-    body: &[u8],
-    at: usize,
-    meta: u64,
-    start: u64,
-    out: &mut [u8],
-    place: usize,
-) -> Step
+// A satellite's other three flags, and what follows them.
+fn write_flags(body: &[u8], at: usize, meta: u64, start: u64, out: &mut [u8], place: usize) -> Step
     requires { ⌜ Placed (now body) at place ⌝ }
     ensures { λ r. ⌜ Ran (now (body .entry)) 0 (unflagged meta start) at place (now (out .entry)) (λ _. end) (now (out .exit)) r ⌝ }
 {
@@ -231,5 +216,5 @@ pub fn write_position3(body: &[u8], at: usize, out: &mut [u8], place: usize) -> 
     else {
         return second;
     };
-    write_unflagged(body, at, meta, start, out, place)
+    write_flags(body, at, meta, start, out, place)
 }

@@ -17,20 +17,23 @@ use Rattle.format.specs.Ledger.{ledger}
 use Rattle.format.proofs.DigitLaws.{length-bytes, length-digits}
 use Rattle.format.proofs.ReadLaws.{rest-at, place-at}
 use Rattle.bits.proofs.Splices.{splice-splice}
+use Rattle.runs.specs.Steps.{stored}
 use Rattle.runs.specs.declared.Step.{Step}
 use Rattle.runs.specs.declared.Step.the-variants.{Done, Refused}
+use Rattle.runs.proofs.Stores.{stored-length, digits-fit}
 use Rattle.write_runs.specs.Went.{pushes, Went, Stopped, Ran}
 use Rattle.write_runs.proofs.WentLaws.{Same, pushes-append, pushes-got, pushes-refused, ledger-append}
 use Rattle.write_plans.specs.Slots.{filledBits, packedBits}
 use Rattle.write_plans.specs.Ragged.{Tail, Ragged}
+use Rattle.write_plans.proofs.Packing.{packed-fit}
 
 -- ---- slots
 
 pub slots-done : {body : List ℕ} {e : ℕ} (nm : Name) (s : Syntax) {at place m : ℕ} {out out′ : List ℕ} → at % 8 ≡ 0 → at + m ≤ 8 * length body
-    → (place + wholes m ≤ length out → out′ ≡ splice out place (packedBits body at m)) → length out′ ≡ length out
+    → out′ ≡ stored out place (packedBits body at m)
     → Went body e (slots nm 12 m s) at place out s (at + 8 * wholes m) (place + wholes m) out′
 unfolding pushes readBody ledger
-slots-done {body} nm s {at} {place} {m} {out} {out′} a h b l =
+slots-done {body} nm s {at} {place} {m} {out} {out′} a h b =
     let d = drop at (bitsOf body) in
     let ld : length d ≡ 8 * length body - at = rest-at body at in
     let lt : length (take m d) ≡ m = length-take-le m d (omega arith) in
@@ -39,8 +42,8 @@ slots-done {body} nm s {at} {place} {m} {out} {out′} a h b l =
       ts = flags nm (take m d) ∷ [];
       reads = rw (le-leb m (length d) (omega arith), drop-drop (8 * wholes m) at (bitsOf body));
       size = omega (arith, ap length one ∙ length-bytes (wholes m) (filledBits body at m));
-      bytes = λ y. b y ∙ ap (splice out place) (sym one);
-      long = l;
+      bytes = λ y. b ∙ packed-fit body out at m place y ∙ ap (splice out place) (sym one);
+      long = ap length b ∙ stored-length out place (packedBits body at m);
       within = omega arith;
       slack = omega arith;
     }
@@ -65,11 +68,10 @@ raw-fits at e n m h a b q = go (leb e n) refl q
     go false p q = record { fits = omega arith; whole = omega arith }
 
 pub raw-done : {body out out₁ out′ : List ℕ} {e at place m : ℕ} (nm : Name) → at ≤ 8 * length body → m ≡ cond (leb e (8 * length body)) (e - at) 0 → Raw at (8 * length body) m
-    → (place + 2 ≤ length out → out₁ ≡ splice out place (digits 256 2 (m / 8))) → length out₁ ≡ length out
-    → (place + 2 + wholes m ≤ length out₁ → out′ ≡ splice out₁ (place + 2) (packedBits body at m)) → length out′ ≡ length out₁
+    → out₁ ≡ stored out place (digits 256 2 (m / 8)) → out′ ≡ stored out₁ (place + 2) (packedBits body at m)
     → Tail body e (raw nm) at place out (at + m) (place + 2 + m / 8) out′
 unfolding readBody ledger
-raw-done {body} {out} {out₁} {out′} {e} {at} {place} {m} nm h q r b l b′ l′ =
+raw-done {body} {out} {out₁} {out′} {e} {at} {place} {m} nm h q r b b′ =
     let d = drop at (bitsOf body) in
     let ld : length d ≡ 8 * length body - at = rest-at body at in
     let lt : length (take m d) ≡ m = length-take-le m d (omega (arith, r .fits)) in
@@ -81,13 +83,15 @@ raw-done {body} {out} {out₁} {out′} {e} {at} {place} {m} nm h q r b l b′ l
     let one : ledger (bytes nm (take m d) ∷ []) ≡ c ++ x = rw (lt, append-nil (c ++ x)) in
     let n1 : length c ≡ 2 = length-digits 256 2 (m / 8) in
     let n2 : length x ≡ m / 8 = length-bytes (m / 8) (take m d) in
+    let l : length out₁ ≡ length out = ap length b ∙ stored-length out place c in
     record {
       ts = bytes nm (take m d) ∷ [];
       reads = rw (place-at body at h, ← q, drop-drop m at (bitsOf body));
       size = omega (arith, ap length one ∙ length-append c x);
-      bytes = λ y. b′ (omega arith) ∙ ap (splice out₁ (place + 2)) p ∙ ap (λ (o : List ℕ). splice o (place + 2) x) (b (omega arith))
+      bytes = λ y. b′ ∙ packed-fit body out₁ at m (place + 2) (omega arith) ∙ ap (splice out₁ (place + 2)) p
+          ∙ ap (λ (o : List ℕ). splice o (place + 2) x) (b ∙ digits-fit out place 2 (m / 8) (omega arith))
           ∙ splice-splice out place c x (place + 2) (omega arith) (omega arith) ∙ ap (splice out place) (sym one);
-      long = l′ ∙ l;
+      long = ap length b′ ∙ stored-length out₁ (place + 2) (packedBits body at m) ∙ l;
       within = r .fits;
       slack = omega (arith, r .whole);
     }

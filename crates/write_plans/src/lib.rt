@@ -4,10 +4,9 @@ ghost use mathlib.Core.Bool.{cond};
 ghost use Prim.Native.Nat.{ℕ, _+_, _-_, _*_, _%_, _≤_, _<_};
 ghost use lib.Dec.{leb};
 ghost use lib.ListN.{length};
-ghost use Rattle.format.specs.Digits.{splice};
 ghost use Rattle.format.specs.Syntax.{Name, Syntax, end, slots, plan, raw};
-ghost use Rattle.format.specs.Body.{wholes};
 ghost use Rattle.format.specs.Tables.{bitmap, mode, hopping, beamhopping};
+ghost use Rattle.runs.specs.Steps.{stored};
 ghost use Rattle.write_runs.specs.Went.{Placed, Ran};
 ghost use Rattle.write_plans.specs.Ragged.{Ragged};
 ghost use Rattle.write_plans.specs.Slots.{packedBits};
@@ -30,10 +29,10 @@ fn lesser(a: usize, b: usize) -> usize
     b
 }
 
-// m bits of a body as bytes, the last one filled up with zeros, where there is room for them; whole bytes are copied.
+// m bits of a body as bytes, the last one filled up with zeros, where there is room for all of them; whole bytes are copied.
 fn write_bits(body: &[u8], at: usize, m: usize, out: &mut [u8], place: usize)
     requires { ⌜ (length (now body) ≤ 4096) × (at + m ≤ 8 * length (now body)) × (place ≤ 40000) ⌝ }
-    ensures { λ _. ⌜ (place + wholes m ≤ length (now (out .entry)) → now (out .exit) ≡ splice (now (out .entry)) place (packedBits (now (body .entry)) at m)) ⌝ }
+    ensures { λ _. ⌜ now (out .exit) ≡ stored (now (out .entry)) place (packedBits (now (body .entry)) at m) ⌝ }
 {
     let whole = (m + 7) / 8;
     if out.len() < place + whole {

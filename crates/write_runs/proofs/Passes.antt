@@ -1,7 +1,7 @@
 -- The loop of `pass_run`: what is read is what a run with no buffer says, and the last number is still to be taken.
 -- Assumes nothing.
 use Prim.Native.Nat.{ℕ, _+_, _-_, _*_, _^_, _≤_, _<_}
-use mathlib.Core.Path.{_≡_, refl, sym, ap, _∙_, subst}
+use mathlib.Core.Path.{_≡_, refl, sym, ap, subst}
 use mathlib.Core.List.{List, [], _∷_}
 use native.Mathlib.Omega.{arith}
 use lib.Dec.{T}
@@ -15,6 +15,7 @@ use Rattle.runs.specs.Lines.{line, run, widthOf, sizeOf, marksOk, headName}
 use Rattle.runs.specs.declared.Step.{Step}
 use Rattle.runs.specs.declared.Step.the-variants.{Done, Refused}
 use Rattle.runs.proofs.MarkLaws.{mark-facts, marks-at}
+use Rattle.runs.proofs.Stores.{digits-short}
 use Rattle.write_runs.specs.Went.{Ran, Placed, Moved}
 use Rattle.write_runs.proofs.WentLaws.{line-done, line-no}
 use Rattle.write_runs.proofs.Runs.{Next, Along, lines, lines-next, lines-end, Balance, balance-next, balance-end, begin, turn, stop, ended}
@@ -63,7 +64,7 @@ module _ {body marks : List ℕ} {at place : ℕ} where
         let same : valueAt body (here + w - w) w ≡ v = ap (λ (p : ℕ). valueAt body p w) back in
         let one : i + 1 - 1 ≡ i = omega arith in
         let y : (nm : Name) (e : ℕ) (k : Next) → Ran body e (line nm c k) here there [] k [] (Done (here + w) (there + z) v) =
-        λ nm e k. record { to = line-done nm c k m ew ez fits refl (λ h. absurd (omega (arith, f .one))) refl } in
+        λ nm e k. record { to = line-done nm c k m ew ez fits refl (sym (digits-short [] there z _ (omega (arith, f .one)))) } in
         record {
           along = λ nms. subst (λ (x : ℕ). Along (run nms 0 marks) (lines nms marks) body at place [] (here + w) (there + z) x (i + 1) []) (sym same)
               (turn (line (headName (drop i nms)) c) (st .along nms) (y (headName (drop i nms))) (λ k. lines-next nms marks _ i k more) refl);

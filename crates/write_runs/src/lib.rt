@@ -2,14 +2,14 @@
 // Where the buffer is too short it may keep anything, and the answer is the same: so the size is asked for with an empty one.
 ghost use mathlib.Core.Path.{_≡_};
 ghost use mathlib.Core.List.{List, [], _∷_};
-ghost use Prim.Native.Nat.{ℕ, _+_, _-_, _*_, _^_, _≤_, _<_};
+ghost use Prim.Native.Nat.{ℕ, _-_, _*_, _^_, _≤_, _<_};
 ghost use lib.Dec.{T};
 ghost use lib.ListN.{length, getD};
-ghost use Rattle.format.specs.Digits.{digits, splice};
+ghost use Rattle.format.specs.Digits.{digits};
 ghost use Rattle.format.specs.Syntax.{Name, Syntax, need};
 ghost use Rattle.format.specs.Tables.{times};
 ghost use Rattle.runs.specs.Lines.{widthOf, markOk, marksOk, line, run, runOf};
-ghost use Rattle.runs.specs.Steps.{lastOf};
+ghost use Rattle.runs.specs.Steps.{lastOf, stored};
 ghost use Rattle.write_runs.specs.Went.{Placed, Ran, Moved};
 use bits::put_be;
 use bits::put_byte;
@@ -23,10 +23,10 @@ use runs::shown_of;
 use runs::size_of;
 use runs::width_of;
 
-// Stores the k low bytes of v at a place where there is room for them; a ledger's fields have 1, 2, 4 or 8.
+// Stores the k low bytes of v at a place, where there is room for all of them; a ledger's fields have 1, 2, 4 or 8.
 pub fn put(out: &mut [u8], place: usize, k: usize, v: u64)
     requires { ⌜ (place ≤ 65536) × (k ≤ 8) ⌝ }
-    ensures { λ _. ⌜ (place + k ≤ length (now (out .entry)) → now (out .exit) ≡ splice (now (out .entry)) place (digits 256 k v)) ⌝ }
+    ensures { λ _. ⌜ now (out .exit) ≡ stored (now (out .entry)) place (digits 256 k v) ⌝ }
 {
     if out.len() < place + k {
         return;
@@ -44,8 +44,18 @@ pub fn put(out: &mut [u8], place: usize, k: usize, v: u64)
     }
 }
 
+// A place within a buffer of n bytes, or its end.
+pub fn within(place: usize, n: usize) -> usize
+    ensures { λ r. ⌜ (r ≤ n) × (place ≤ n → r ≡ place) ⌝ }
+{
+    if place < n {
+        return place;
+    }
+    n
+}
+
 // One field.
-pub fn write_line(body: &[u8], at: usize, mark: u8, out: &mut [u8], place: usize) -> Step
+fn write_line(body: &[u8], at: usize, mark: u8, out: &mut [u8], place: usize) -> Step
     requires { ⌜ Placed (now body) at place ⌝ }
     requires { ⌜ T (markOk mark) ⌝ }
     ensures { λ r. ⌜ ((e : ℕ) (nm : Name) (k : ℕ → Syntax) → Ran (now (body .entry)) e (line nm mark k) at place (now (out .entry)) k (now (out .exit)) r) ⌝ }

@@ -1,5 +1,4 @@
 // The entries of tables 0, 1 and 2, written as a ledger: runs of marks, and the branches between them.
-ghost use mathlib.Core.Path.{_≡_};
 ghost use Prim.Native.Nat.{_<_};
 ghost use Rattle.format.specs.Syntax.{end};
 ghost use Rattle.format.specs.Tables.{position, fragment, association};
@@ -33,7 +32,7 @@ pub fn write_position(body: &[u8], at: usize, out: &mut [u8], place: usize) -> S
 }
 
 // Id 1: the three lists, behind the first one's count.
-pub fn write_lists(body: &[u8], at: usize, count: u64, out: &mut [u8], place: usize) -> Step
+fn write_lists(body: &[u8], at: usize, count: u64, out: &mut [u8], place: usize) -> Step
     requires { ⌜ Placed (now body) at place ⌝ }
     requires { ⌜ count < 1024 ⌝ }
     ensures { λ r. ⌜ Ran (now (body .entry)) 0 (lists count) at place (now (out .entry)) (λ _. end) (now (out .exit)) r ⌝ }
@@ -87,26 +86,16 @@ pub fn write_fragment(body: &[u8], at: usize, out: &mut [u8], place: usize) -> S
     };
     if first == 1 {
         let centre = write_needed(body, at, 5, 76, &marks::CENTRE, out, place);
-        let Step::Done {
-            at,
-            place,
-            last: count,
-        } = centre
-        else {
+        let Step::Done { at, place, last } = centre else {
             return centre;
         };
-        return write_lists(body, at, count, out, place);
+        return write_lists(body, at, last, out, place);
     }
     let none = write_run(body, at, &marks::NO_CENTRE, out, place);
-    let Step::Done {
-        at,
-        place,
-        last: count,
-    } = none
-    else {
+    let Step::Done { at, place, last } = none else {
         return none;
     };
-    write_lists(body, at, count, out, place)
+    write_lists(body, at, last, out, place)
 }
 
 // Id 2: a time association.

@@ -3,12 +3,13 @@
 use mathlib.Core.Path.{refl}
 use borrow.Author.Needs.{needs}
 use Rattle.format.specs.Tables.{fragment}
+use Rattle.format.specs.At.{endOf}
 use Rattle.format.specs.declared.EntryEnd.{EntryEnd}
 use Rattle.format.specs.declared.EntryEnd.the-variants as end
-use Rattle.fragment.specs.Fragment.{fragmentOf, fragmentAt}
+use Rattle.fragment.specs.Fragment.{fragmentOf, fragmentAt, fragmentRefusal}
 use Rattle.fragment.specs.declared.CellFragmentAnswer.{CellFragmentAnswer}
 use Rattle.fragment.specs.declared.CellFragmentAnswer.the-variants.{Entry, Refused}
-use Rattle.entries.proofs.Ends.{ends}
+use Rattle.entries.proofs.Ends.{given, given-no}
 use Rattle.entries.proofs.fragment_end.Statement.{statement}
 use Rattle.entries.proofs.fragment_end.Tie as tie
 
@@ -22,21 +23,24 @@ read-fragment-requires c κs = search needs
 enum-known-r : tie.Need-enum-known-r
 enum-known-r c = search needs
 
-enum-known-r-2 : tie.Need-enum-known-r-2
-enum-known-r-2 c = search needs
+enum-told : tie.Need-enum-told
+enum-told c = search needs
+
+fragment-refusal-requires : tie.Need-fragment-refusal-requires
+fragment-refusal-requires c κs = search needs
 
 returns : tie.Need-returns
-unfolding after fragmentAt
+unfolding endOf after fragmentRefusal fragmentAt
 returns c =
-    ends _ fragment _ (λ ts q. Entry (fragmentOf (c .before .before .before .before .before .args .at) ts) q) Refused after (λ ts q. refl) (λ f. refl)
-    (c .before .before .before .read-fragment .ensures) (c .before .r .given .1) refl
+    given-no _ fragment _ (λ ts q. end.At q) end.Refused (λ ts q. Entry (fragmentOf (c .before .before .before .before .before .args .at) ts) q) Refused after (λ ts q. refl) (λ f. refl) fragmentRefusal (λ x. refl)
+    (c .before .before .before .read-fragment .ensures) (c .before .enum-told .given .1) (c .fragment-refusal .ensures)
 
 returns-2 : tie.Need-returns-2
-unfolding after fragmentAt
+unfolding endOf after fragmentAt
 returns-2 c =
-    ends _ fragment _ (λ ts q. Entry (fragmentOf (c .before .before .before .before .before .args .at) ts) q) Refused after (λ ts q. refl) (λ f. refl)
-    (c .before .before .before .read-fragment .ensures) (c .before .r2 .given .1) refl
+    given _ fragment _ (λ ts q. end.At q) end.Refused (λ ts q. Entry (fragmentOf (c .before .before .before .before .before .args .at) ts) q) Refused after (λ ts q. refl) (λ f. refl)
+    (c .before .before .before .read-fragment .ensures) (c .before .r .given .1) refl
 
 pub fragment-end-spec : {M : Type 1} → statement M
 fragment-end-spec =
-    tie.close (tie.spec read-fragment-requires enum-known-r enum-known-r-2 returns returns-2)
+    tie.close (tie.spec read-fragment-requires enum-known-r enum-told fragment-refusal-requires returns returns-2)

@@ -3,12 +3,13 @@
 use mathlib.Core.Path.{refl}
 use borrow.Author.Needs.{needs}
 use Rattle.format.specs.Tables.{beamhopping}
+use Rattle.format.specs.At.{endOf}
 use Rattle.format.specs.declared.EntryEnd.{EntryEnd}
 use Rattle.format.specs.declared.EntryEnd.the-variants as end
-use Rattle.plan.specs.Plan.{planOf, planAt}
+use Rattle.plan.specs.Plan.{planOf, planAt, planRefusal}
 use Rattle.plan.specs.declared.BeamhoppingAnswer.{BeamhoppingAnswer}
 use Rattle.plan.specs.declared.BeamhoppingAnswer.the-variants.{Entry, Refused}
-use Rattle.entries.proofs.Ends.{ends}
+use Rattle.entries.proofs.Ends.{given, given-no}
 use Rattle.entries.proofs.plan_end.Statement.{statement}
 use Rattle.entries.proofs.plan_end.Tie as tie
 
@@ -22,23 +23,24 @@ read-plan-requires c κs = search needs
 enum-known-r : tie.Need-enum-known-r
 enum-known-r c = search needs
 
-enum-known-r-2 : tie.Need-enum-known-r-2
-enum-known-r-2 c = search needs
+enum-told : tie.Need-enum-told
+enum-told c = search needs
+
+plan-refusal-requires : tie.Need-plan-refusal-requires
+plan-refusal-requires c κs = search needs
 
 returns : tie.Need-returns
-unfolding after planAt
+unfolding endOf after planRefusal planAt
 returns c =
-    let a = c .before .before .before .before .before .args in
-    ends _ beamhopping _ (λ ts q. Entry (planOf (a .s .now) (a .at) ts) q) Refused after (λ ts q. refl) (λ f. refl)
-    (c .before .before .before .read-plan .ensures) (c .before .r .given .1) refl
+    given-no _ beamhopping _ (λ ts q. end.At q) end.Refused (λ ts q. Entry (planOf (c .before .before .before .before .before .args .s .now) (c .before .before .before .before .before .args .at) ts) q) Refused after (λ ts q. refl) (λ f. refl) planRefusal (λ x. refl)
+    (c .before .before .before .read-plan .ensures) (c .before .enum-told .given .1) (c .plan-refusal .ensures)
 
 returns-2 : tie.Need-returns-2
-unfolding after planAt
+unfolding endOf after planAt
 returns-2 c =
-    let a = c .before .before .before .before .before .args in
-    ends _ beamhopping _ (λ ts q. Entry (planOf (a .s .now) (a .at) ts) q) Refused after (λ ts q. refl) (λ f. refl)
-    (c .before .before .before .read-plan .ensures) (c .before .r2 .given .1) refl
+    given _ beamhopping _ (λ ts q. end.At q) end.Refused (λ ts q. Entry (planOf (c .before .before .before .before .before .args .s .now) (c .before .before .before .before .before .args .at) ts) q) Refused after (λ ts q. refl) (λ f. refl)
+    (c .before .before .before .read-plan .ensures) (c .before .r .given .1) refl
 
 pub plan-end-spec : {M : Type 1} → statement M
 plan-end-spec =
-    tie.close (tie.spec read-plan-requires enum-known-r enum-known-r-2 returns returns-2)
+    tie.close (tie.spec read-plan-requires enum-known-r enum-told plan-refusal-requires returns returns-2)

@@ -3,12 +3,13 @@
 use mathlib.Core.Path.{refl}
 use borrow.Author.Needs.{needs}
 use Rattle.format.specs.Tables.{position}
+use Rattle.format.specs.At.{endOf}
 use Rattle.format.specs.declared.EntryEnd.{EntryEnd}
 use Rattle.format.specs.declared.EntryEnd.the-variants as end
-use Rattle.position.specs.Satellite.{satelliteOf, satelliteAt}
+use Rattle.position.specs.Satellite.{satelliteOf, satelliteAt, positionRefusal}
 use Rattle.position.specs.declared.PositionV2Answer.{PositionV2Answer}
 use Rattle.position.specs.declared.PositionV2Answer.the-variants.{Entry, Refused}
-use Rattle.entries.proofs.Ends.{ends}
+use Rattle.entries.proofs.Ends.{given, given-no}
 use Rattle.entries.proofs.satellite_end.Statement.{statement}
 use Rattle.entries.proofs.satellite_end.Tie as tie
 
@@ -22,21 +23,24 @@ read-satellite-requires c κs = search needs
 enum-known-r : tie.Need-enum-known-r
 enum-known-r c = search needs
 
-enum-known-r-2 : tie.Need-enum-known-r-2
-enum-known-r-2 c = search needs
+enum-told : tie.Need-enum-told
+enum-told c = search needs
+
+position-refusal-requires : tie.Need-position-refusal-requires
+position-refusal-requires c κs = search needs
 
 returns : tie.Need-returns
-unfolding after satelliteAt
+unfolding endOf after positionRefusal satelliteAt
 returns c =
-    ends _ position _ (λ ts q. Entry (satelliteOf ts) q) Refused after (λ ts q. refl) (λ f. refl) (c .before .before .before .read-satellite .ensures)
-    (c .before .r .given .1) refl
+    given-no _ position _ (λ ts q. end.At q) end.Refused (λ ts q. Entry (satelliteOf ts) q) Refused after (λ ts q. refl) (λ f. refl) positionRefusal (λ x. refl)
+    (c .before .before .before .read-satellite .ensures) (c .before .enum-told .given .1) (c .position-refusal .ensures)
 
 returns-2 : tie.Need-returns-2
-unfolding after satelliteAt
+unfolding endOf after satelliteAt
 returns-2 c =
-    ends _ position _ (λ ts q. Entry (satelliteOf ts) q) Refused after (λ ts q. refl) (λ f. refl) (c .before .before .before .read-satellite .ensures)
-    (c .before .r2 .given .1) refl
+    given _ position _ (λ ts q. end.At q) end.Refused (λ ts q. Entry (satelliteOf ts) q) Refused after (λ ts q. refl) (λ f. refl)
+    (c .before .before .before .read-satellite .ensures) (c .before .r .given .1) refl
 
 pub satellite-end-spec : {M : Type 1} → statement M
 satellite-end-spec =
-    tie.close (tie.spec read-satellite-requires enum-known-r enum-known-r-2 returns returns-2)
+    tie.close (tie.spec read-satellite-requires enum-known-r enum-told position-refusal-requires returns returns-2)

@@ -113,8 +113,14 @@ returns-2 c =
           (least-entry ((a .table-id)) ((pre .1))) (byte-entry ((a .table-id)) ((pre .1))) ((a .s .now)) (a .start) (a .index) (c .before .loop .at)
           (c .before .loop .count) (c .before .loop .place) (c .before .loop .inv ((pre .1))) Entries Refused
           (omega (arith, c .before .before .least-bits .ensures)),
-      record
-          { to = (pre .0 .0, c .before .loop .inv ((pre .1)) .sure .0, c .before .loop .inv ((pre .1)) .sure .1) },
+      record {
+        to = record {
+          short = pre .0 .0;
+          within = c .before .loop .inv ((pre .1)) .sure .0;
+          byte = c .before .loop .inv ((pre .1)) .sure .1;
+          on = omega (arith, c .before .loop .inv ((pre .1)) .few);
+        };
+      },
     )
 
 pub seek-entries-spec : {M : Type 1} → statement M

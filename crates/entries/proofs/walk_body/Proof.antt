@@ -8,7 +8,7 @@ use Rattle.format.specs.Whole.{layout}
 use Rattle.entries.specs.Entries.{IsList}
 use Rattle.entries.specs.declared.Walked.the-variants.{Entries, Refused}
 use Rattle.entries.proofs.Ends.{is-list}
-use Rattle.entries.proofs.Bodies.{headed, seek-over, seek-list, seek-unheaded}
+use Rattle.entries.proofs.Bodies.{headed, head-ends, no-head-end, seek-over, seek-list, seek-unheaded}
 use Rattle.entries.proofs.walk_body.Statement.{statement}
 use Rattle.entries.proofs.walk_body.Tie as tie
 
@@ -39,13 +39,17 @@ sole-entry-requires : tie.Need-sole-entry-requires
 sole-entry-requires c κs = (c .before .if1 .left, two (c .before .before .before .args .table-id) (c .if2 .taken))
 
 returns-2 : tie.Need-returns-2
-returns-2 c = (c .sole-entry .ensures .0 (c .before .before .before .before .args .index), c .sole-entry .ensures .1)
+returns-2 c =
+    let a = c .before .before .before .before .args in
+    (c .sole-entry .ensures .0 (a .index), rw (no-head-end (a .table-id) (a .s .now) (two (a .table-id) (c .before .if2 .taken))) (c .sole-entry .ensures .1))
 
 sole-entry-requires-2 : tie.Need-sole-entry-requires-2
 sole-entry-requires-2 c κs = (c .before .before .if1 .left, no-list (c .before .before .before .before .args .table-id) (c .if3 .taken))
 
 returns-3 : tie.Need-returns-3
-returns-3 c = (c .sole-entry2 .ensures .0 (c .before .before .before .before .before .args .index), c .sole-entry2 .ensures .1)
+returns-3 c =
+    let a = c .before .before .before .before .before .args in
+    (c .sole-entry2 .ensures .0 (a .index), rw (no-head-end (a .table-id) (a .s .now) (no-list (a .table-id) (c .before .if3 .taken))) (c .sole-entry2 .ensures .1))
 
 head-end-requires : tie.Need-head-end-requires
 head-end-requires c κs =
@@ -95,7 +99,8 @@ returns-5 c =
       seek-list (a .index) Entries Refused (a .s .now) (a .table-id) _ (if1 .left)
           ((is-list (a .table-id) (c .before .before .before .before .before .if3 .left) (if2 .left)))
           ((sym (c .before .before .before .before .head-end .ensures) ∙ c .before .before .head .given .1)) (c .seek-entries .ensures .0),
-      c .seek-entries .ensures .1,
+      rw (head-ends (a .table-id) (a .s .now) _ (sym (c .before .before .before .before .head-end .ensures) ∙ c .before .before .head .given .1))
+          (c .seek-entries .ensures .1),
     )
 
 pub walk-body-spec : {M : Type 1} → statement M

@@ -6,7 +6,8 @@ use borrow.Author.Needs.{needs}
 use denote.Ref.{now}
 use Rattle.ledger_reader.specs.declared.Measure.the-variants.{Refused}
 use Rattle.ledger_reader.proofs.Entries.{held, unheld}
-use Rattle.ledger_reader.proofs.Measuring.{below-of, Headed, framed, measure-short, measure-wrong, measure-version, measure-unread, measure-big, measure-size}
+use Rattle.format.proofs.DigitLaws.{below-of}
+use Rattle.ledger_reader.proofs.Measuring.{Headed, framed, measure-short, measure-wrong, measure-version, measure-unread, measure-big, measure-size}
 use Rattle.ledger_reader.proofs.ledger_measure.Statement.{statement}
 use Rattle.ledger_reader.proofs.ledger_measure.Tie as tie
 
@@ -53,7 +54,7 @@ read-content-requires c κs =
     let a = c .before .before .before .before .before .before .before .before .args in
     let if1 = c .before .before .before .before .before .before .if1 in
     let shared-slice-known = c .before .before .before .before .before .before .before .shared-slice-known in
-    framed (below-of (now (a .ledger)) (λ i. omega (arith, shared-slice-known .given i))) (if1 .left)
+    framed (below-of 256 (now (a .ledger)) (λ i. omega (arith, shared-slice-known .given i))) (if1 .left)
     (sym (c .before .before .before .before .before .get-be .ensures) ∙ c .before .before .before .before .if2 .left)
 
 enum-known-content : tie.Need-enum-known-content
@@ -76,14 +77,14 @@ returns-5 : tie.Need-returns-5
 returns-5 c =
     let l = now (c .before .before .before .before .before .before .before .before .before .before .before .before .before .before .args .ledger) in
     let h : Headed l = record { four = c .before .before .before .before .before .before .before .before .before .before .before .before .if1 .left; long = (sym (c .before .before .before .before .before .before .before .before .before .before .before .get-be .ensures) ∙ c .before .before .before .before .before .before .before .before .before .before .if2 .left); version = c .before .before .before .before .before .before .before .before .if3 .left } in
-    let b = below-of l (λ i. omega (arith, c .before .before .before .before .before .before .before .before .before .before .before .before .before .shared-slice-known .given i)) in
+    let b = below-of 256 l (λ i. omega (arith, c .before .before .before .before .before .before .before .before .before .before .before .before .before .shared-slice-known .given i)) in
     measure-big l h b (held (c .before .before .content .given .1) (c .before .before .before .before .before .read-content .ensures)) (c .if4 .taken)
 
 returns-6 : tie.Need-returns-6
 returns-6 c =
     let l = now (c .before .before .before .before .before .before .before .before .before .before .before .before .before .before .args .ledger) in
     let h : Headed l = record { four = c .before .before .before .before .before .before .before .before .before .before .before .before .if1 .left; long = (sym (c .before .before .before .before .before .before .before .before .before .before .before .get-be .ensures) ∙ c .before .before .before .before .before .before .before .before .before .before .if2 .left); version = c .before .before .before .before .before .before .before .before .if3 .left } in
-    let b = below-of l (λ i. omega (arith, c .before .before .before .before .before .before .before .before .before .before .before .before .before .shared-slice-known .given i)) in
+    let b = below-of 256 l (λ i. omega (arith, c .before .before .before .before .before .before .before .before .before .before .before .before .before .shared-slice-known .given i)) in
     measure-size l h b (held (c .before .before .content .given .1) (c .before .before .before .before .before .read-content .ensures)) (c .if4 .left)
 
 pub ledger-measure-spec : {M : Type 1} → statement M

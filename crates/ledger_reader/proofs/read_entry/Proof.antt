@@ -2,7 +2,7 @@
 -- Assumes nothing.
 use native.Mathlib.Omega.{arith}
 use borrow.Author.Needs.{needs}
-use mathlib.Core.Path.{_≡_}
+use mathlib.Core.Path.{_≡_, refl}
 use Rattle.read_plans.proofs.TakenLaws.{as-taken}
 use Rattle.ledger_reader.proofs.read_entry.Statement.{statement}
 use Rattle.ledger_reader.proofs.read_entry.Tie as tie
@@ -47,7 +47,7 @@ returns-3 c =
 read-position3-requires : tie.Need-read-position3-requires
 read-position3-requires c κs =
     let pre = c .before .before .before .before .before .before .pre in
-    (record { short = (pre .0) .short; within = (pre .0) .within; behind = omega (arith, (pre .0) .behind) })
+    (record { short = (pre .0) .short; within = (pre .0) .within; behind = omega (arith, (pre .0) .behind) }, refl)
 
 same-length-4 : tie.Need-same-length-4
 same-length-4 c = search needs

@@ -1,12 +1,15 @@
 -- `read_fields` goes through a table by the layout of its id.
 -- Assumes nothing.
-use mathlib.Core.Path.{_≡_}
+use mathlib.Core.Path.{_≡_, refl}
 use native.Mathlib.Omega.{arith}
+use denote.Ref.{now}
 use borrow.Author.Needs.{needs}
 use Rattle.format.specs.Tables.{position3}
+use Rattle.format.proofs.FineTables.{fine-header}
 use Rattle.read_runs.proofs.CameLaws.{stopped}
 use Rattle.read_plans.proofs.TakenLaws.{as-taken}
-use Rattle.ledger_reader.proofs.Entries.{took, holds-no}
+use Rattle.ledger_reader.proofs.Entries.{took, took-whole, holds-no}
+use Rattle.format.proofs.DigitLaws.{below-of}
 use Rattle.ledger_reader.proofs.Fields.{opaque-from, headless, sole-holds, opaque-holds, no-head, head-no, list-holds}
 use Rattle.ledger_reader.proofs.read_fields.Statement.{statement}
 use Rattle.ledger_reader.proofs.read_fields.Tie as tie
@@ -67,8 +70,11 @@ returns-3 c =
 read-list-requires : tie.Need-read-list-requires
 read-list-requires c κs =
     let w = (took (c .before .before .header .given .1) (as-taken (c .before .before .before .before .before .before .read-header .ensures))) in
-    let pre = c .before .before .before .before .before .before .before .before .before .before .before .before .before .pre in
-    (record { short = pre .short; within = w .within; behind = omega (arith, w .slack) }, record { known = omega arith; several = λ z. omega arith })
+    let s = c .before .before .before .before .before .before .before .before .before .before .before .before .before in
+    let bytes = below-of 256 (now (s .args .ledger)) (λ i. omega (arith, c .before .before .before .before .before .before .before .before .before .before .before .before .shared-slice-known .given i)) in (
+      record { short = s .pre .short; within = w .within; behind = omega (arith, w .slack) },
+      (took-whole fine-header bytes refl w, record { known = omega arith; several = λ z. omega arith }),
+    )
 
 same-length-4 : tie.Need-same-length-4
 same-length-4 c = search needs
@@ -83,8 +89,7 @@ read-list-requires-2 : tie.Need-read-list-requires-2
 read-list-requires-2 c κs =
     let pre = c .before .before .before .before .before .before .pre in (
       (record { short = pre .short; within = pre .four; behind = omega arith }),
-      record
-          { known = omega arith; several = c .before .before .if2 .left },
+      (refl, record { known = omega arith; several = c .before .before .if2 .left }),
     )
 
 same-length-5 : tie.Need-same-length-5

@@ -1,19 +1,19 @@
 -- `hex_line` stores the digits and a newline where there is room for all.
 -- Assumes nothing.
 use native.Mathlib.Omega.{arith}
-use Rattle.ledger_text.proofs.Lines.{too-short, hex-stored}
+use Rattle.ledger_text.proofs.Lines.{hex-short, hex-stored}
 use borrow.Author.Needs.{needs}
 use Rattle.ledger_text.proofs.hex_line.Statement.{statement}
 use Rattle.ledger_text.proofs.hex_line.Tie as tie
 
 returns : tie.Need-returns
-returns c = too-short _ _ _ (omega arith)
+returns c = hex-short _ _ (omega arith)
 
 sub-if2 : tie.Need-sub-if2
 sub-if2 c = search needs
 
 returns-2 : tie.Need-returns-2
-returns-2 c = too-short _ _ _ (omega arith)
+returns-2 c = hex-short _ _ (omega arith)
 
 put-hex-requires : tie.Need-put-hex-requires
 put-hex-requires c κs = search needs

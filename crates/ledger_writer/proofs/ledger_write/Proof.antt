@@ -9,49 +9,52 @@ use Rattle.ledger_writer.proofs.ledger_write.Tie as tie
 ledger-size-requires : tie.Need-ledger-size-requires
 ledger-size-requires c κs = search needs
 
-enum-known-n : tie.Need-enum-known-n
-enum-known-n c = search needs
+enum-known-size : tie.Need-enum-known-size
+enum-known-size c = search needs
 
-enum-known-f : tie.Need-enum-known-f
-enum-known-f c = search needs
+enum-told : tie.Need-enum-told
+enum-told c = search needs
+
+size-refusal-requires : tie.Need-size-refusal-requires
+size-refusal-requires c κs = search needs
 
 returns : tie.Need-returns
-returns c = says-no _ _ _ (c .before .f .given .1) (c .before .before .before .ledger-size .ensures)
+returns c = says-no _ _ _ (c .before .enum-told .given .1) (c .before .before .before .ledger-size .ensures) (c .size-refusal .ensures)
 
 returns-2 : tie.Need-returns-2
-returns-2 c = says-short (known (c .before .before .n .given .1) (c .before .before .before .before .ledger-size .ensures)) (c .if1 .taken)
+returns-2 c = says-short (known (c .before .before .size .given .1) (c .before .before .before .before .ledger-size .ensures)) (c .if1 .taken)
 
 sub-put-be : tie.Need-sub-put-be
 sub-put-be c =
-    omega (arith, (known (c .before .before .before .n .given .1) (c .before .before .before .before .before .ledger-size .ensures)) .content)
+    omega (arith, (known (c .before .before .before .size .given .1) (c .before .before .before .before .before .ledger-size .ensures)) .content)
 
 put-be-requires : tie.Need-put-be-requires
 put-be-requires c κs =
-    omega (arith, (known (c .before .before .before .n .given .1) (c .before .before .before .before .before .ledger-size .ensures)) .content)
+    omega (arith, (known (c .before .before .before .size .given .1) (c .before .before .before .before .before .ledger-size .ensures)) .content)
 
 put-be-requires-2 : tie.Need-put-be-requires-2
 put-be-requires-2 c κs =
     let ledger-size = c .before .before .before .before .before .before .before .before .before .ledger-size in
-    let n = c .before .before .before .before .before .before .before .n in
-    omega (arith, (known (n .given .1) (ledger-size .ensures)) .content)
+    let size = c .before .before .before .before .before .before .before .size in
+    omega (arith, (known (size .given .1) (ledger-size .ensures)) .content)
 
 put-be-requires-3 : tie.Need-put-be-requires-3
 put-be-requires-3 c κs =
     let ledger-size = c .before .before .before .before .before .before .before .before .before .before .before .before .before .ledger-size in
-    let n = c .before .before .before .before .before .before .before .before .before .before .before .n in
-    omega (arith, (known (n .given .1) (ledger-size .ensures)) .content)
+    let size = c .before .before .before .before .before .before .before .before .before .before .before .size in
+    omega (arith, (known (size .given .1) (ledger-size .ensures)) .content)
 
 sub-write-content : tie.Need-sub-write-content
 sub-write-content c =
     let ledger-size = c .before .before .before .before .before .before .before .before .before .before .before .before .before .before .before .before .ledger-size in
-    let n = c .before .before .before .before .before .before .before .before .before .before .before .before .before .before .n in
-    omega (arith, (known (n .given .1) (ledger-size .ensures)) .content)
+    let size = c .before .before .before .before .before .before .before .before .before .before .before .before .before .before .size in
+    omega (arith, (known (size .given .1) (ledger-size .ensures)) .content)
 
 part-write-content-start : tie.Need-part-write-content-start
 part-write-content-start c =
     let ledger-size = c .before .before .before .before .before .before .before .before .before .before .before .before .before .before .before .before .ledger-size in
-    let n = c .before .before .before .before .before .before .before .before .before .before .before .before .before .before .n in
-    omega (arith, (known (n .given .1) (ledger-size .ensures)) .content)
+    let size = c .before .before .before .before .before .before .before .before .before .before .before .before .before .before .size in
+    omega (arith, (known (size .given .1) (ledger-size .ensures)) .content)
 
 part-write-content-end : tie.Need-part-write-content-end
 part-write-content-end c = search needs
@@ -59,8 +62,8 @@ part-write-content-end c = search needs
 write-content-requires : tie.Need-write-content-requires
 write-content-requires c κs =
     let ledger-size = c .before .before .before .before .before .before .before .before .before .before .before .before .before .before .before .before .before .ledger-size in
-    let n = c .before .before .before .before .before .before .before .before .before .before .before .before .before .before .before .n in
-    (known (n .given .1) (ledger-size .ensures)) .short
+    let size = c .before .before .before .before .before .before .before .before .before .before .before .before .before .before .before .size in
+    (known (size .given .1) (ledger-size .ensures)) .short
 
 same-length : tie.Need-same-length
 same-length c = search needs
@@ -70,11 +73,11 @@ returns-3 c =
     let fits = c .before .before .before .before .before .before .before .before .before .before .before .before .before .before .before .before .before .before .before .before .before .before .before .fits in
     let if1 = c .before .before .before .before .before .before .before .before .before .before .before .before .before .before .before .before .if1 in
     let ledger-size = c .before .before .before .before .before .before .before .before .before .before .before .before .before .before .before .before .before .before .before .before .ledger-size in
-    let n = c .before .before .before .before .before .before .before .before .before .before .before .before .before .before .before .before .before .before .n in
+    let size = c .before .before .before .before .before .before .before .before .before .before .before .before .before .before .before .before .before .before .size in
     let put-be = c .before .before .before .before .before .before .before .before .before .before .before .before .before .before .put-be in
     let put-be2 = c .before .before .before .before .before .before .before .before .before .before .put-be2 in
     let put-be3 = c .before .before .before .before .before .before .put-be3 in
-    says-yes _ (fits .table-id .fits) (known (n .given .1) (ledger-size .ensures)) (if1 .left) (put-be .ensures) (put-be2 .ensures) (put-be3 .ensures)
+    says-yes _ (fits .table-id .fits) (known (size .given .1) (ledger-size .ensures)) (if1 .left) (put-be .ensures) (put-be2 .ensures) (put-be3 .ensures)
     (search needs) (c .before .before .write-content .ensures)
 
 pub ledger-write-spec : {M : Type 1} → statement M
@@ -82,8 +85,9 @@ ledger-write-spec =
     tie.close
     (tie.spec
     ledger-size-requires
-    enum-known-n
-    enum-known-f
+    enum-known-size
+    enum-told
+    size-refusal-requires
     returns
     returns-2
     sub-put-be

@@ -4,9 +4,9 @@ use Prim.Native.Nat.{_-_, _*_}
 use native.Mathlib.Omega.{arith}
 use borrow.Author.Needs.{needs}
 use lib.ListN.{length}
+use Rattle.write_runs.proofs.Lent.{lent}
 use Rattle.write_runs.proofs.WentLaws.{done, stopped}
-use Rattle.ledger_writer.proofs.Stores.{lent}
-use Rattle.ledger_writer.proofs.Listing.{Listing, begin, turn, stop, listed-no, ended, ledger-size}
+use Rattle.ledger_writer.proofs.Listing.{Listing, begin, turn, stop, listed-no, ended}
 use Rattle.ledger_writer.proofs.write_entries.Statement.{statement}
 use Rattle.ledger_writer.proofs.write_entries.Tie as tie
 
@@ -87,30 +87,17 @@ add-count c =
 
 loop-less : tie.Need-loop-less Inv-loop μ-loop
 loop-less c =
-    let least-of = c .before .before .before .before .before .before .before .before .before .before .least-of in
     let l = c .before .before .before .before .before .before .before .before .before .loop in
-    let within = c .before .before .before .before .before .before .before .within in
-    let write-entry = c .before .before .before .before .before .write-entry in
-    omega (
-      arith,
-      (turn (l .inv) (done (c .before .entry .given .1) (write-entry .ensures)) _ (omega (arith, least-of .ensures))
-          (omega (arith, l .inv .long))
-          (lent (l .out) _ _ (within .result) (l .there) (c .before .entry .given .0 .1 .0) (within .ensures .0) (within .ensures .1)
-          (ledger-size (done (c .before .entry .given .1) (write-entry .ensures)))
-          ((done (c .before .entry .given .1) (write-entry .ensures)) .bytes))) .0,
-      (done (c .before .entry .given .1) (write-entry .ensures)) .within,
-    )
+    let w = done (c .before .entry .given .1) (c .before .before .before .before .before .write-entry .ensures) in
+    let t = turn (l .inv) (lent (l .out) _ (l .there) (c .before .before .before .before .before .before .before .within .ensures) w) (omega (arith, c .before .before .before .before .before .before .before .before .before .before .least-of .ensures)) in
+    omega (arith, t .0, w .within)
 
 loop-again : tie.Need-loop-again Inv-loop μ-loop
 loop-again c =
-    let least-of = c .before .before .before .before .before .before .before .before .before .before .least-of in
     let l = c .before .before .before .before .before .before .before .before .before .loop in
-    let within = c .before .before .before .before .before .before .before .within in
-    let write-entry = c .before .before .before .before .before .write-entry in
-    (turn (l .inv) (done (c .before .entry .given .1) (write-entry .ensures)) _ (omega (arith, least-of .ensures)) (omega (arith, l .inv .long))
-    (lent (l .out) _ _ (within .result) (l .there) (c .before .entry .given .0 .1 .0) (within .ensures .0) (within .ensures .1)
-    (ledger-size (done (c .before .entry .given .1) (write-entry .ensures)))
-    ((done (c .before .entry .given .1) (write-entry .ensures)) .bytes))) .1
+    let w = done (c .before .entry .given .1) (c .before .before .before .before .before .write-entry .ensures) in
+    let t = turn (l .inv) (lent (l .out) _ (l .there) (c .before .before .before .before .before .before .before .within .ensures) w) (omega (arith, c .before .before .before .before .before .before .before .before .before .before .least-of .ensures)) in
+    t .1
 
 put-requires : tie.Need-put-requires Inv-loop μ-loop
 put-requires c κs =

@@ -26,7 +26,7 @@ meta c =
 
 list : (c : tie.After-known-told3) → let k = c .before .before .before .before in
     let a = k .before .before .before .before .before .before .before .before .before .args in
-    Listed (a .s .now) (frontOf (a .s .now) (a .at) .accel) (k .before .m .given .0 .1 .0) (c .before .e .given .0 .0) (c .before .e .given .0 .1 .0)
+    Listed (a .s .now) (frontOf (a .s .now) (a .at) .flags .accel) (k .before .m .given .0 .1 .0) (c .before .e .given .0 .0) (c .before .e .given .0 .1 .0)
 list c =
     let k = c .before .before .before in
     let o = k .before .before .before .before .before in

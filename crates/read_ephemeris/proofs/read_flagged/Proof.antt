@@ -1,15 +1,21 @@
 -- `read_flagged`: a proof with the shape of the code.
 -- Assumes nothing.
 use Prim.Native.Nat.{ℕ}
+use mathlib.Core.List.{[], _∷_}
+use native.Mathlib.Omega.{arith}
+use denote.Ref.{now}
 use lib.Dec.{eqb}
 use borrow.Author.Needs.{needs}
 use borrow.Author.Tests.{eq-eqb, ne-eqb}
-use Rattle.format.specs.Syntax.{Syntax, when}
+use Rattle.format.specs.Syntax.{Syntax, end, when}
 use Rattle.format.specs.Tables.{bits, metadata, ephemerides}
-use Rattle.runs.specs.Lines.{run, signOf, widthOf}
+use Rattle.runs.specs.Lines.{run, signOf, widthOf, sizeOf}
 use Rattle.read_runs.proofs.CameLaws.{done, stops, starts, then, go-on, when-yes, when-no}
 use Rattle.read_runs.proofs.Runs.{placed-on}
+use Rattle.format.proofs.DigitLaws.{below-of}
+use Rattle.read_runs.proofs.Moved.{run-moved, came-whole}
 use Rattle.runs.proofs.Names as names
+use Rattle.read_ephemeris.proofs.Each.{fine-metadata}
 use Rattle.read_ephemeris.proofs.read_flagged.Statement.{statement}
 use Rattle.read_ephemeris.proofs.read_flagged.Tie as tie
 
@@ -48,7 +54,7 @@ read-run-requires-2 c κs =
     let a = c .before .before .before .before .before .before .before .before .before .before .before .before .args in
     let pre = c .before .before .before .before .before .before .before .before .before .before .before .before .pre in
     let read-run = c .before .before .before .before .before .before .before .read-run in (
-      placed-on pre
+      placed-on (pre .0)
           (done (c .before .before .before .fourth .given .1)
           (read-run .ensures .0 names.accel (λ accel. bits "covariance_flag" 1 ((rest (a .meta) (a .start) (a .stop)) accel)))),
       tt,
@@ -83,7 +89,7 @@ read-metadata-requires c κs =
     let pre = c .before .before .before .before .before .before .before .before .before .before .before .before .before .before .before .before .before .before .before .before .pre in
     let read-run = c .before .before .before .before .before .before .before .before .before .before .before .before .before .before .before .read-run in
     let read-run2 = c .before .before .before .before .before .before .before .read-run2 in
-    placed-on pre
+    placed-on (pre .0)
     (go-on
     (done (fourth .given .1)
     (read-run .ensures .0 names.accel (λ accel. bits "covariance_flag" 1 ((rest (a .meta) (a .start) (a .stop)) accel))))
@@ -119,7 +125,7 @@ returns-3 c =
     (ephemerides (fourth .given .0 .1 .1 .0) (fifth .given .0 .1 .1 .0)))))
 
 read-ephemerides-requires : tie.Need-read-ephemerides-requires
-unfolding run signOf widthOf
+unfolding run signOf widthOf sizeOf
 read-ephemerides-requires c κs =
     let a = c .before .before .before .before .before .before .before .before .before .before .before .before .before .before .before .before .before .before .before .before .before .before .before .before .before .before .before .args in
     let fifth = c .before .before .before .before .before .before .before .before .before .before .fifth in
@@ -129,15 +135,22 @@ read-ephemerides-requires c κs =
     let read-metadata = c .before .before .before .before .before .before .read-metadata in
     let read-run = c .before .before .before .before .before .before .before .before .before .before .before .before .before .before .before .before .before .before .before .before .before .before .read-run in
     let read-run2 = c .before .before .before .before .before .before .before .before .before .before .before .before .before .before .read-run2 in
-    placed-on pre
-    (go-on
-    (go-on
-    (done (fourth .given .1)
-    (read-run .ensures .0 names.accel (λ accel. bits "covariance_flag" 1 ((rest (a .meta) (a .start) (a .stop)) accel))))
-    (done (fifth .given .1) (read-run2 .ensures .0 names.cov ((rest (a .meta) (a .start) (a .stop)) (fourth .given .0 .1 .1 .0)))))
-    (done (c .before .before .about .given .1)
-    (starts (when-yes _ _ _ _ _ (eq-eqb _ _ (if1 .taken)))
-    (read-metadata .ensures (ephemerides (fourth .given .0 .1 .1 .0) (fifth .given .0 .1 .1 .0))))))
+    let flag = done (fourth .given .1) (read-run .ensures .0 names.accel (λ accel. bits "covariance_flag" 1 ((rest (a .meta) (a .start) (a .stop)) accel))) in
+    let about = c .before .before .about in
+    let bytes = below-of 256 (now (a .ledger)) (λ i. omega (arith, c .before .before .before .before .before .before .before .before .before .before .before .before .before .before .before .before .before .before .before .before .before .before .before .before .before .before .shared-slice-known .given i)) in (
+      placed-on (pre .0)
+          (go-on
+          (go-on
+          (done (fourth .given .1)
+          (read-run .ensures .0 names.accel (λ accel. bits "covariance_flag" 1 ((rest (a .meta) (a .start) (a .stop)) accel))))
+          (done (fifth .given .1) (read-run2 .ensures .0 names.cov ((rest (a .meta) (a .start) (a .stop)) (fourth .given .0 .1 .1 .0)))))
+          (done (c .before .before .about .given .1)
+          (starts (when-yes _ _ _ _ _ (eq-eqb _ _ (if1 .taken)))
+          (read-metadata .ensures (ephemerides (fourth .given .0 .1 .1 .0) (fifth .given .0 .1 .1 .0)))))),
+      came-whole (fine-metadata (a .start) (a .stop)) bytes
+          (omega (arith, run-moved (1 ∷ []) (fourth .given .1) (pre .0 .within) (read-run .ensures .0), run-moved (1 ∷ []) (fifth .given .1) (flag .within) (read-run2 .ensures .0), pre .1))
+          (done (about .given .1) (read-metadata .ensures end)),
+    )
 
 same-length-4 : tie.Need-same-length-4
 same-length-4 c = search needs
@@ -164,19 +177,23 @@ returns-4 c =
     (c .before .before .read-ephemerides .ensures)
 
 read-ephemerides-requires-2 : tie.Need-read-ephemerides-requires-2
-unfolding run signOf widthOf
+unfolding run signOf widthOf sizeOf
 read-ephemerides-requires-2 c κs =
     let a = c .before .before .before .before .before .before .before .before .before .before .before .before .before .before .before .before .before .before .before .before .args in
     let fourth = c .before .before .before .before .before .before .before .before .before .before .before .fourth in
     let pre = c .before .before .before .before .before .before .before .before .before .before .before .before .before .before .before .before .before .before .before .before .pre in
     let read-run = c .before .before .before .before .before .before .before .before .before .before .before .before .before .before .before .read-run in
     let read-run2 = c .before .before .before .before .before .before .before .read-run2 in
-    placed-on pre
-    (go-on
-    (done (fourth .given .1)
-    (read-run .ensures .0 names.accel (λ accel. bits "covariance_flag" 1 ((rest (a .meta) (a .start) (a .stop)) accel))))
-    (done (c .before .before .before .fifth .given .1)
-    (read-run2 .ensures .0 names.cov ((rest (a .meta) (a .start) (a .stop)) (fourth .given .0 .1 .1 .0)))))
+    let flag = done (fourth .given .1) (read-run .ensures .0 names.accel (λ accel. bits "covariance_flag" 1 ((rest (a .meta) (a .start) (a .stop)) accel))) in
+    let fifth = c .before .before .before .fifth in (
+      placed-on (pre .0)
+          (go-on
+          (done (fourth .given .1)
+          (read-run .ensures .0 names.accel (λ accel. bits "covariance_flag" 1 ((rest (a .meta) (a .start) (a .stop)) accel))))
+          (done (c .before .before .before .fifth .given .1)
+          (read-run2 .ensures .0 names.cov ((rest (a .meta) (a .start) (a .stop)) (fourth .given .0 .1 .1 .0))))),
+      omega (arith, run-moved (1 ∷ []) (fourth .given .1) (pre .0 .within) (read-run .ensures .0), run-moved (1 ∷ []) (fifth .given .1) (flag .within) (read-run2 .ensures .0), pre .1),
+    )
 
 same-length-5 : tie.Need-same-length-5
 same-length-5 c = search needs

@@ -1,11 +1,13 @@
 -- `read_position3`: a proof with the shape of the code, by the description of id 4.
 -- Assumes nothing.
+use mathlib.Core.List.{[], _∷_}
 use native.Mathlib.Omega.{arith}
 use borrow.Author.Needs.{needs}
 use Rattle.format.specs.Tables.{bits, position3}
-use Rattle.runs.specs.Lines.{run, signOf, widthOf}
+use Rattle.runs.specs.Lines.{run, signOf, widthOf, sizeOf}
 use Rattle.read_runs.proofs.CameLaws.{done, stops, then, go-on}
 use Rattle.read_runs.proofs.Runs.{placed-on}
+use Rattle.read_runs.proofs.Moved.{run-moved}
 use Rattle.read_ephemeris.specs.Flagged.{flagged}
 use Rattle.runs.proofs.Names as names
 use Rattle.read_ephemeris.proofs.read_position3.Statement.{statement}
@@ -41,7 +43,7 @@ unfolding run signOf widthOf
 read-run-requires-2 c κs =
     let pre = c .before .before .before .before .before .before .before .before .before .before .before .before .pre in
     let read-run = c .before .before .before .before .before .before .before .read-run in (
-      placed-on pre
+      placed-on (pre .0)
           (done (c .before .before .before .head .given .1)
           (read-run .ensures .0 names.satellite3
           (λ meta. bits "usable_start_time_flag" 1 (λ start. bits "usable_stop_time_flag" 1 (flagged meta start))))),
@@ -80,7 +82,7 @@ read-run-requires-3 c κs =
     let pre = c .before .before .before .before .before .before .before .before .before .before .before .before .before .before .before .before .before .before .before .before .pre in
     let read-run = c .before .before .before .before .before .before .before .before .before .before .before .before .before .before .before .read-run in
     let read-run2 = c .before .before .before .before .before .before .before .read-run2 in (
-      placed-on pre
+      placed-on (pre .0)
           (go-on
           (done (head .given .1)
           (read-run .ensures .0 names.satellite3
@@ -117,7 +119,7 @@ returns-3 c =
     (c .before .before .before .before .read-run3 .ensures .0 names.stop (flagged (head .given .0 .1 .1 .0) (second .given .0 .1 .1 .0))))
 
 read-flagged-requires : tie.Need-read-flagged-requires
-unfolding run signOf widthOf
+unfolding run signOf widthOf sizeOf
 read-flagged-requires c κs =
     let head = c .before .before .before .before .before .before .before .before .before .before .before .before .before .before .before .before .before .before .head in
     let pre = c .before .before .before .before .before .before .before .before .before .before .before .before .before .before .before .before .before .before .before .before .before .before .before .before .before .before .before .pre in
@@ -125,17 +127,28 @@ read-flagged-requires c κs =
     let read-run2 = c .before .before .before .before .before .before .before .before .before .before .before .before .before .before .read-run2 in
     let read-run3 = c .before .before .before .before .before .before .read-run3 in
     let second = c .before .before .before .before .before .before .before .before .before .before .second in
-    placed-on pre
-    (go-on
-    (go-on
-    (done (head .given .1)
-    (read-run .ensures .0 names.satellite3
-    (λ meta. bits "usable_start_time_flag" 1 (λ start. bits "usable_stop_time_flag" 1 (flagged meta start)))))
-    (done (second .given .1)
-    (read-run2 .ensures .0 names.start
-    (λ start. bits "usable_stop_time_flag" 1 (flagged (head .given .0 .1 .1 .0) start)))))
-    (done (c .before .before .third .given .1)
-    (read-run3 .ensures .0 names.stop (flagged (head .given .0 .1 .1 .0) (second .given .0 .1 .1 .0)))))
+    let w = (done (head .given .1) (read-run .ensures .0 names.satellite3 (λ meta. bits "usable_start_time_flag" 1 (λ start. bits "usable_stop_time_flag" 1 (flagged meta start))))) in
+    let w2 = (done (second .given .1) (read-run2 .ensures .0 names.start (λ start. bits "usable_stop_time_flag" 1 (flagged (head .given .0 .1 .1 .0) start)))) in
+    let third = c .before .before .third in (
+      placed-on (pre .0)
+          (go-on
+          (go-on
+          (done (head .given .1)
+          (read-run .ensures .0 names.satellite3
+          (λ meta. bits "usable_start_time_flag" 1 (λ start. bits "usable_stop_time_flag" 1 (flagged meta start)))))
+          (done (second .given .1)
+          (read-run2 .ensures .0 names.start
+          (λ start. bits "usable_stop_time_flag" 1 (flagged (head .given .0 .1 .1 .0) start)))))
+          (done (c .before .before .third .given .1)
+          (read-run3 .ensures .0 names.stop (flagged (head .given .0 .1 .1 .0) (second .given .0 .1 .1 .0))))),
+      omega (
+        arith,
+        run-moved (24 ∷ 3 ∷ 1 ∷ []) (head .given .1) (pre .0 .within) (read-run .ensures .0),
+        run-moved (1 ∷ []) (second .given .1) (w .within) (read-run2 .ensures .0),
+        run-moved (1 ∷ []) (third .given .1) (w2 .within) (read-run3 .ensures .0),
+        pre .1,
+      ),
+    )
 
 same-length-4 : tie.Need-same-length-4
 unfolding run signOf widthOf

@@ -8,7 +8,8 @@ use Rattle.runs.specs.Lines.{signOf, widthOf, sizeOf, run}
 use Rattle.read_runs.proofs.CameLaws.{done, stops, then, go-on}
 use Rattle.read_runs.proofs.Runs.{placed-on}
 use Rattle.write_plans.proofs.Names.{modeNames, timeNames, afterMode}
-use Rattle.read_plans.proofs.TakenLaws.{run-moved, spared, spared-no}
+use Rattle.read_runs.proofs.Moved.{run-moved}
+use Rattle.read_plans.proofs.TakenLaws.{spared, spared-no}
 use Rattle.read_plans.proofs.read_hopping.Statement.{statement}
 use Rattle.read_plans.proofs.read_hopping.Tie as tie
 

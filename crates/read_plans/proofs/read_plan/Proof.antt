@@ -6,9 +6,12 @@ use borrow.Author.Needs.{needs}
 use Rattle.format.specs.Syntax.{plan}
 use Rattle.format.specs.Tables.{hopping, beamhopping}
 use Rattle.runs.specs.Lines.{signOf, widthOf, sizeOf, run}
+use Rattle.format.proofs.DigitLaws.{length-digits}
 use Rattle.read_runs.proofs.CameLaws.{done}
+use Rattle.read_runs.proofs.Moved.{run-moved}
+use Rattle.read_runs.proofs.Stores.{fits}
 use Rattle.write_plans.proofs.Names.{planNames}
-use Rattle.read_plans.proofs.TakenLaws.{run-moved, taken-no, plan-no, plan-took, spared-done}
+use Rattle.read_plans.proofs.TakenLaws.{taken-no, plan-no, plan-took, spared-done}
 use Rattle.read_plans.proofs.read_plan.Statement.{statement}
 use Rattle.read_plans.proofs.read_plan.Tie as tie
 
@@ -95,7 +98,7 @@ returns-3 c =
     let read-hopping = c .before .before .before .before .before .before .before .before .before .read-hopping in
     let read-run = c .before .before .before .before .before .before .before .before .before .before .before .before .before .before .before .before .read-run in
     record {
-      to = plan-took (done (head .given .1) (read-run .ensures .0 planNames (λ _. plan "plan_length" hopping))) (done (hopping′ .given .1) (read-hopping .ensures .0)) (c .before .before .lay .ensures) (search needs) (omega (
+      to = plan-took (done (head .given .1) (read-run .ensures .0 planNames (λ _. plan "plan_length" hopping))) (done (hopping′ .given .1) (read-hopping .ensures .0)) (fits _ _ _ _ 12 (c .before .before .lay .ensures) (length-digits 2 12 _)) (search needs) (omega (
         arith,
         (run-moved (32 ∷ 4 ∷ []) (head .given .1) (pre .within) (read-run .ensures .0)),
         spared-done (hopping′ .given .1)

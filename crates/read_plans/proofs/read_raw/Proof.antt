@@ -3,6 +3,8 @@
 use Prim.Native.Nat.{_+_}
 use borrow.Author.Needs.{needs}
 use Rattle.read_plans.proofs.SlotLaws.{part-of, raw-short, raw-missing, raw-came}
+use Rattle.format.proofs.DigitLaws.{length-bits}
+use Rattle.read_runs.proofs.Stores.{fits}
 use Rattle.read_plans.proofs.read_raw.Statement.{statement}
 use Rattle.read_plans.proofs.read_raw.Tie as tie
 
@@ -57,7 +59,7 @@ returns-3 c =
     let if1 = c .before .before .before .before .before .before .before .if1 in
     let pre = c .before .before .before .before .before .before .before .before .before .before .pre in
     λ nm. record
-    { to = raw-came _ _ nm (pre .within) _ (if1 .left) (get-be .ensures) (c .before .before .before .before .before .if2 .left) (part-of (a .ledger .now) (a .place + 2) (get-be .result)) (c .before .before .lay-bytes .ensures) (search needs) }
+    { to = raw-came _ _ nm (pre .within) _ (if1 .left) (get-be .ensures) (c .before .before .before .before .before .if2 .left) (part-of (a .ledger .now) (a .place + 2) (get-be .result)) (fits _ _ _ _ _ (c .before .before .lay-bytes .ensures) (length-bits _)) (search needs) }
 
 pub read-raw-spec : {M : Type 1} → statement M
 read-raw-spec =

@@ -4,6 +4,8 @@ use mathlib.Core.Path.{sym, _∙_}
 use borrow.Author.Needs.{needs}
 use Rattle.format.specs.Body.{wholes}
 use Rattle.read_plans.proofs.SlotLaws.{part-of, slots-came, slots-wrong, slots-missing}
+use Rattle.format.proofs.DigitLaws.{length-bits}
+use Rattle.read_runs.proofs.Stores.{fits}
 use Rattle.read_plans.proofs.read_slots.Statement.{statement}
 use Rattle.read_plans.proofs.read_slots.Tie as tie
 
@@ -62,7 +64,7 @@ returns-3 c =
     let if1 = c .before .before .before .before .before .before .before .if1 in
     let pre = c .before .before .before .before .before .before .before .before .before .before .pre in
     λ nm s. record
-    { to = slots-came _ _ _ _ (pre .0 .within) (if1 .left) (part-of (a .ledger .now) (a .place) (wholes (a .m))) nm s (sym (c .before .before .before .before .before .value-at .ensures) ∙ c .before .before .before .before .if2 .left) (c .before .before .lay-bytes .ensures) (search needs) }
+    { to = slots-came _ _ _ _ (pre .0 .within) (if1 .left) (part-of (a .ledger .now) (a .place) (wholes (a .m))) nm s (sym (c .before .before .before .before .before .value-at .ensures) ∙ c .before .before .before .before .if2 .left) (fits _ _ _ _ _ (c .before .before .lay-bytes .ensures) (length-bits _)) (search needs) }
 
 pub read-slots-spec : {M : Type 1} → statement M
 read-slots-spec =

@@ -4,10 +4,13 @@ use mathlib.Core.Path.{refl, sym, _∙_}
 use native.Mathlib.Nat.{mod-lt}
 use native.Mathlib.Omega.{arith}
 use lib.Pow.{pow-pos}
+use denote.Ref.{now}
 use borrow.Author.Needs.{needs}
+use Rattle.format.proofs.DigitLaws.{length-digits}
 use Rattle.runs.specs.Lines.{widthOf}
 use Rattle.runs.proofs.MarkLaws.{mark-facts}
 use Rattle.read_runs.proofs.CameLaws.{line-done, missing, wrong}
+use Rattle.read_runs.proofs.Stores.{fits}
 use Rattle.read_runs.proofs.read_line.Statement.{statement}
 use Rattle.read_runs.proofs.read_line.Tie as tie
 
@@ -122,7 +125,7 @@ returns-4 c =
     let right = c .before .before .before .before .before .before .if2 .left in
     let width = c .before .before .before .before .before .width-of .ensures in (
       λ nm k. record {
-        to = line-done nm (a .mark) k (pre .1) width size ((pre .0) .within) there (number .ensures) low (sym shown ∙ right) (c .before .before .lay .ensures) (search needs);
+        to = line-done nm (a .mark) k (pre .1) width size ((pre .0) .within) there (number .ensures) low (sym shown ∙ right) (fits (now (a .out)) _ _ _ _ (c .before .before .lay .ensures) (length-digits 2 _ _)) (search needs);
       },
       rw low (mod-lt (number .result) (pow-pos (widthOf (a .mark)))),
     )

@@ -1,9 +1,11 @@
 -- `copy_bytes`: an element more a turn.
 -- Assumes nothing.
 use Prim.Native.Nat.{_-_}
+use mathlib.Core.Path.{sym}
 use native.Mathlib.Omega.{arith}
 use borrow.Author.Needs.{needs}
 use lib.ListN.{length}
+use Rattle.runs.proofs.Stores.{stored-short}
 use Rattle.runs.proofs.Copies.{Copying, copy-none, copy-next, copy-all}
 use Rattle.runs.proofs.copy_bytes.Statement.{statement}
 use Rattle.runs.proofs.copy_bytes.Tie as tie
@@ -36,10 +38,10 @@ same-length : tie.Need-same-length Inv-loop μ-loop
 same-length c = c .before .loop .inv .long
 
 returns : tie.Need-returns Inv-loop μ-loop
-returns c = λ h. copy-all (c .before .loop .inv) (omega arith)
+returns c = copy-all (c .before .loop .inv) (omega arith) (omega arith)
 
 returns-2 : tie.Need-returns-2 Inv-loop μ-loop
-returns-2 c = λ h. absurd (omega arith)
+returns-2 c = sym (stored-short _ 0 _ (omega arith))
 
 pub copy-bytes-spec : {M : Type 1} → statement M
 copy-bytes-spec =

@@ -41,10 +41,10 @@ returns-2 c =
 satellite-v3-entry-requires : tie.Need-satellite-v3-entry-requires
 satellite-v3-entry-requires c κs =
     let w = c .before .before .before .w in
-    let walk-body = c .before .before .before .before .before .walk-body in (
-      record
-          { short = omega (arith, (sure-of (w .given .1) (walk-body .ensures .1))); within = ((sure-of (w .given .1) (walk-body .ensures .1))) .1 },
-      ((sure-of (w .given .1) (walk-body .ensures .1))) .2,
+    let walk-body = c .before .before .before .before .before .walk-body in
+    let sure = sure-of (w .given .1) (walk-body .ensures .1) in (
+      record { short = omega (arith, sure .short); within = sure .within },
+      sure .byte,
     )
 
 returns-3 : tie.Need-returns-3
@@ -62,14 +62,14 @@ other-entry-requires : tie.Need-other-entry-requires
 other-entry-requires c κs =
     let a = c .before .before .before .before .before .before .before .args in
     let w = c .before .before .before .w in
-    let walk-body = c .before .before .before .before .before .walk-body in (
+    let walk-body = c .before .before .before .before .before .walk-body in
+    let sure = sure-of (w .given .1) (walk-body .ensures .1) in (
       (
-        record
-            { short = omega (arith, (sure-of (w .given .1) (walk-body .ensures .1))); within = ((sure-of (w .given .1) (walk-body .ensures .1))) .1 },
-        ((sure-of (w .given .1) (walk-body .ensures .1))) .2,
+        record { short = omega (arith, sure .short); within = sure .within },
+        sure .byte,
       ),
       (λ z. first-place ((a .body .now)) (a .index)
-          (subst (λ (k : ℕ). walk-body .result ≡ seek (a .index) walked.Entries walked.Refused (bodyStarts k ((a .body .now)))) z
+          (subst (λ (k : ℕ). walk-body .result ≡ seek (a .body .now) (a .index) walked.Entries walked.Refused (bodyStarts k ((a .body .now)))) z
           ((walk-body .ensures .0)))
           (w .given .1)),
       c .if2 .left,

@@ -1,6 +1,7 @@
 -- `other_entry` meets its contract, by the id.
 -- Assumes nothing.
 use mathlib.Core.Path.{_≡_}
+use borrow.Author.Needs.{needs}
 use Rattle.sat.proofs.Made.{raw-entry}
 use Rattle.sat.proofs.other_entry.Statement.{statement}
 use Rattle.sat.proofs.other_entry.Tie as tie
@@ -32,11 +33,15 @@ plan-entry-requires c κs = c .before .before .before .before .before .pre .0
 returns-4 : tie.Need-returns-4
 returns-4 c = let z : c .before .before .before .before .before .before .args .table-id ≡ 3 = c .before .if4 .taken in rw z (c .plan-entry .ensures)
 
+raw-part-requires : tie.Need-raw-part-requires
+raw-part-requires c κs = search needs
+
 returns-5 : tie.Need-returns-5
 returns-5 c =
-    let a = c .before .before .before .before .before .args in
-    raw-entry (a .table-id) _ (a .at) (c .before .before .before .if1 .left) (c .before .before .if2 .left) (c .before .if3 .left) (c .if4 .left)
-    (c .before .before .before .before .before .pre .2)
+    let a = c .before .before .before .before .before .before .args in
+    rw (c .raw-part .ensures)
+    (raw-entry (a .table-id) _ (a .at) (c .before .before .before .before .if1 .left) (c .before .before .before .if2 .left)
+    (c .before .before .if3 .left) (c .before .if4 .left) (c .before .before .before .before .before .before .pre .2))
 
 pub other-entry-spec : {M : Type 1} → statement M
 other-entry-spec =
@@ -50,4 +55,5 @@ other-entry-spec =
     returns-3
     plan-entry-requires
     returns-4
+    raw-part-requires
     returns-5)

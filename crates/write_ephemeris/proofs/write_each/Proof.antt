@@ -1,11 +1,14 @@
--- `write_each` meets its contract: an entry a turn.
+-- `write_each` meets its contract: an entry a turn, from the place where the last one ended.
 -- Assumes nothing.
 use native.Mathlib.Omega.{arith}
 use borrow.Author.Needs.{needs}
 use Prim.Native.Nat.{_-_, _≤_}
+use Rattle.format.specs.Syntax.{end}
 use Rattle.format.specs.Tables.{times, ephemeris}
 use Rattle.write_ephemeris.specs.Rest.{ephemerisTo}
-use Rattle.write_runs.proofs.Runs.{Along, begin, turn, stop, ended}
+use Rattle.write_runs.proofs.Lent.{lent}
+use Rattle.write_runs.proofs.Runs.{Along, begin, next, stop, ended}
+use Rattle.write_runs.proofs.WentLaws.{done, stops}
 use Rattle.write_ephemeris.proofs.Each.{as-zero, left, left-all, left-next, left-end}
 use Rattle.write_ephemeris.proofs.write_each.Statement.{statement}
 use Rattle.write_ephemeris.proofs.write_each.Tie as tie
@@ -19,25 +22,45 @@ abbrev μ-loop : tie.MeasureT-loop
 loop-holds : tie.Need-loop-holds Inv-loop μ-loop
 loop-holds c = (begin (c .before .before .pre) (left-all (c .before .before .args .accel) (c .before .before .args .count)), omega arith)
 
-write-entry-requires : tie.Need-write-entry-requires Inv-loop μ-loop
-write-entry-requires c κs = c .before .before .loop .inv .0 .placed
+within-requires : tie.Need-within-requires Inv-loop μ-loop
+within-requires c κs = search needs
 
-enum-known-step : tie.Need-enum-known-step Inv-loop μ-loop
-enum-known-step c = search needs
+sub-write-entry : tie.Need-sub-write-entry Inv-loop μ-loop
+sub-write-entry c = search needs
+
+part-write-entry-start : tie.Need-part-write-entry-start Inv-loop μ-loop
+part-write-entry-start c = omega arith
+
+part-write-entry-end : tie.Need-part-write-entry-end Inv-loop μ-loop
+part-write-entry-end c = omega arith
+
+write-entry-requires : tie.Need-write-entry-requires Inv-loop μ-loop
+write-entry-requires c κs =
+    let p = c .before .before .before .loop .inv .0 .placed in
+    record { short = p .short; within = p .within; behind = omega arith }
+
+enum-known-entry : tie.Need-enum-known-entry Inv-loop μ-loop
+enum-known-entry c = search needs
 
 enum-told : tie.Need-enum-told Inv-loop μ-loop
 enum-told c = search needs
 
 same-length : tie.Need-same-length Inv-loop μ-loop
-same-length c = omega (arith, c .before .before .before .before .before .before .before .loop .inv .0 .long)
+same-length c = omega (arith, c .before .before .before .before .before .before .before .before .loop .inv .0 .long)
 
 returns : tie.Need-returns Inv-loop μ-loop
 returns c =
-    let a = c .before .before .before .before .before .before .before .before .before .before .args in
-    let l = c .before .before .before .before .before .before .before .loop in
-    let test′ = c .before .before .before .before .before .before .loop-test in
-    λ s. stop (ephemerisTo (a .accel)) (l .inv .0) (λ e k. c .before .before .before .before .write-entry .ensures e k)
+    let a = c .before .before .before .before .before .before .before .before .before .before .before .args in
+    let l = c .before .before .before .before .before .before .before .before .loop in
+    let test′ = c .before .before .before .before .before .before .before .loop-test in
+    λ s. stop (ephemerisTo (a .accel)) (l .inv .0) (λ e k. stops (c .enum-told .given .1) (c .before .before .before .before .write-entry .ensures e k))
     (λ k. left-next (a .accel) (a .count) 0 (l .i) k (test′ .taken)) (c .enum-told .given .1) 0 (λ _. s) (λ _. s)
+
+add-there : tie.Need-add-there Inv-loop μ-loop
+add-there c =
+    let p = c .before .before .before .before .before .before .before .before .before .loop .inv .0 .placed in
+    let w = done (c .before .entry .given .1) (c .before .before .before .before .before .write-entry .ensures 0 (λ _. end)) in
+    omega (arith, w .slack, w .within, p .behind, p .within, p .short)
 
 add-i : tie.Need-add-i Inv-loop μ-loop
 add-i c = omega arith
@@ -47,12 +70,12 @@ loop-less c = omega arith
 
 loop-again : tie.Need-loop-again Inv-loop μ-loop
 loop-again c =
-    let a = c .before .before .before .before .before .before .before .before .before .before .before .args in
-    let l = c .before .before .before .before .before .before .before .before .loop in
-    let test′ = c .before .before .before .before .before .before .before .loop-test in (
+    let a = c .before .before .before .before .before .before .before .before .before .before .before .before .args in
+    let l = c .before .before .before .before .before .before .before .before .before .loop in
+    let test′ = c .before .before .before .before .before .before .before .before .loop-test in (
       as-zero (a .accel) (a .count)
-          (turn (ephemerisTo (a .accel)) (l .inv .0) (λ e k. c .before .before .before .before .before .write-entry .ensures e k)
-          (λ k. left-next (a .accel) (a .count) 0 (l .i) k (test′ .taken)) (c .before .step .given .1)),
+          (next (ephemerisTo (a .accel)) (l .inv .0) (λ k. left-next (a .accel) (a .count) 0 (l .i) k (test′ .taken))
+          (λ e k. lent (l .out) _ (l .there) (c .before .before .before .before .before .before .before .within .ensures) (done (c .before .entry .given .1) (c .before .before .before .before .before .write-entry .ensures e k)))),
       omega arith,
     )
 
@@ -71,11 +94,16 @@ write-each-spec =
     Inv-loop
     μ-loop
     loop-holds
+    within-requires
+    sub-write-entry
+    part-write-entry-start
+    part-write-entry-end
     write-entry-requires
-    enum-known-step
+    enum-known-entry
     enum-told
     same-length
     returns
+    add-there
     add-i
     loop-less
     loop-again

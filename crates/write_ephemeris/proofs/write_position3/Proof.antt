@@ -63,9 +63,9 @@ returns-2 c =
     (stops (c .enum-told2 .given .1)
     (c .before .before .before .before .write-run2 .ensures .0 0 names.start ((unflagged (first .given .0 .1 .1 .0)))))
 
-write-unflagged-requires : tie.Need-write-unflagged-requires
+write-flags-requires : tie.Need-write-flags-requires
 unfolding run signOf widthOf
-write-unflagged-requires c κs =
+write-flags-requires c κs =
     let first = c .before .before .before .before .before .before .before .before .before .before .first in
     let pre = c .before .before .before .before .before .before .before .before .before .before .before .before .before .before .before .before .before .before .before .pre in
     let write-run = c .before .before .before .before .before .before .before .before .before .before .before .before .before .before .write-run in
@@ -97,7 +97,7 @@ returns-3 c =
     ((go-on ((done (first .given .1) (write-run .ensures .0 0 names.satellite3 second)))
     (done (c .before .before .before .before .before .second .given .1)
     (write-run2 .ensures .0 0 names.start ((unflagged (first .given .0 .1 .1 .0)))))))
-    (c .before .before .write-unflagged .ensures)
+    (c .before .before .write-flags .ensures)
 
 pub write-position3-spec : {M : Type 1} → statement M
 write-position3-spec =
@@ -115,6 +115,6 @@ write-position3-spec =
     enum-told-2
     same-length-2
     returns-2
-    write-unflagged-requires
+    write-flags-requires
     same-length-3
     returns-3)

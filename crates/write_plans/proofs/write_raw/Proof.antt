@@ -64,7 +64,7 @@ returns c =
     let put = c .before .before .before .before .before .before .put in
     let raw-bits = c .before .before .before .before .before .before .before .before .raw-bits in
     λ nm. record
-    { to = raw-done nm (pre .0 .within) (raw-bits .ensures) (raw-fits (a .at) (a .stop) (8 * length (a .body .now)) (raw-bits .result) (pre .0 .within) (pre .1 .0) (pre .1 .1) (raw-bits .ensures)) (put .ensures) (search needs) (c .before .before .write-bits .ensures) (search needs) }
+    { to = raw-done nm (pre .0 .within) (raw-bits .ensures) (raw-fits (a .at) (a .stop) (8 * length (a .body .now)) (raw-bits .result) (pre .0 .within) (pre .1 .0) (pre .1 .1) (raw-bits .ensures)) (put .ensures) (c .before .before .write-bits .ensures) }
 
 pub write-raw-spec : {M : Type 1} → statement M
 write-raw-spec =

@@ -25,6 +25,7 @@ pub struct Case {
 }
 
 pub struct Set {
+    pub name: String,
     pub what: &'static str,
     pub cases: Vec<Case>,
 }
@@ -58,7 +59,7 @@ pub fn set(name: &str) -> Set {
         _ => ("the mix", mix()),
     };
     assert!(!cases.is_empty(), "no body of {what}");
-    Set { what, cases }
+    Set { name: name.to_string(), what, cases }
 }
 
 /// None if the Rust refuses the body.

@@ -35,10 +35,14 @@ impl Found {
         Found(rounds)
     }
 
+    fn median(&self, digits: usize) -> String {
+        format!("{:.digits$}", self.0[self.0.len() / 2])
+    }
+
     /// The median, and the smallest and the largest round.
     fn text(&self, digits: usize) -> String {
         let (least, most) = (self.0[0], self.0[self.0.len() - 1]);
-        format!("{:.digits$} ({least:.digits$} to {most:.digits$})", self.0[self.0.len() / 2])
+        format!("{} ({least:.digits$}–{most:.digits$})", self.median(digits))
     }
 }
 
@@ -58,18 +62,27 @@ fn rounds(set: &Set) -> [Vec<f64>; 5] {
 }
 
 /// Round by round, how many times the time of `ours` the other one took.
-fn ratio(other: &[f64], ours: &[f64]) -> String {
-    Found::new(other.iter().zip(ours).map(|(o, w)| o / w).collect()).text(2)
+fn ratio(other: &[f64], ours: &[f64]) -> Found {
+    Found::new(other.iter().zip(ours).map(|(o, w)| o / w).collect())
 }
 
 fn line(set: &Set, cells: &[String]) -> String {
-    let bytes = set.bytes() / set.cases.len();
-    format!("| {} | {} of {bytes} | {} |\n", set.what, set.cases.len(), cells.join(" | "))
+    format!("| {} | {} |\n", set.name, cells.join(" | "))
+}
+
+/// What each set has.
+fn bodies(sets: &[Set]) -> String {
+    let row = |set: &Set| {
+        let bytes = set.bytes() / set.cases.len();
+        line(set, &[set.what.to_string(), format!("{} of {bytes} bytes", set.cases.len())])
+    };
+    let rows: String = sets.iter().map(row).collect();
+    format!("| Set | What | Bodies |\n|---|---|---|\n{rows}")
 }
 
 pub fn tables(sets: &[Set]) {
     let head = |names: &str, columns: usize| {
-        format!("| Table | Bodies, bytes | {names} |\n|---|---|{}\n", "---|".repeat(columns))
+        format!("| Set | {names} |\n|---|{}\n", "---|".repeat(columns))
     };
     let mut written = head(
         "Rust parse | Rust parse + ledger | `sat_ledger_write` | (parse + ledger) / write \
@@ -81,10 +94,11 @@ pub fn tables(sets: &[Set]) {
         let times = rounds(set);
         let [parse, ledger, ours, plain, back] = &times;
         let ns = |call: &[f64]| Found::new(call.to_vec()).text(0);
-        let ratios = (ratio(ledger, ours), ratio(parse, ours), ratio(plain, back));
-        written += &line(set, &[ns(parse), ns(ledger), ns(ours), ratios.0, ratios.1]);
-        read += &line(set, &[ns(plain), ns(back), ratios.2]);
+        let like = ratio(ledger, ours).text(2);
+        let harder = ratio(parse, ours).median(2);
+        written += &line(set, &[ns(parse), ns(ledger), ns(ours), like, harder]);
+        read += &line(set, &[ns(plain), ns(back), ratio(plain, back).text(2)]);
     }
     println!("Nanoseconds a body: median (smallest to largest) of {ROUNDS} rounds.\n");
-    println!("{written}\n{read}");
+    println!("{}\n{written}\n{read}", bodies(sets));
 }
