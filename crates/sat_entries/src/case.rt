@@ -8,7 +8,7 @@ use crate::text::Path;
 use crate::text::bytes_field;
 use crate::text::bytes_of;
 use crate::text::element;
-use crate::text::field;
+use crate::text::list;
 use crate::text::put;
 use crate::text::put_number;
 use crate::text::put_text;
@@ -17,6 +17,7 @@ use crate::text::under;
 use entry_ids::IdsAnswer;
 use entry_ids::entry_ids;
 use format::Refusal;
+use parts::Part;
 use sat::BodyHeader;
 use sat::CountAnswer;
 use sat::EntryAnswer;
@@ -45,7 +46,7 @@ fn show_body(out: &mut [u8; 8192], used: usize, id: u8, body: &[u8]) -> usize {
     match read {
         SatBodyAnswer::Body(whole) => {
             let used = show_header(out, used, id, body);
-            let used = show_count(out, used, id, list_length(whole));
+            let used = show_list(out, used, id, list_part(whole));
             let used = show_entries(out, used, id, body, entries_in(id, body));
             show_ids(out, used, id, body)
         }
@@ -90,24 +91,27 @@ fn list_path(id: u8) -> Path {
     root()
 }
 
-// How many entries the list of a body has; of a body that is no list nothing is shown.
-fn list_length(whole: SatBody) -> usize {
+// The part of a body's list of entries; of a body that is no list nothing is shown.
+fn list_part(whole: SatBody) -> Part {
     match whole {
-        SatBody::PositionV2(b) => b.satellites.count,
-        SatBody::CellFragment(b) => b.fragments.count,
-        SatBody::TimeAssociation(_) => 0,
-        SatBody::BeamhoppingTimePlan(b) => b.plans.count,
-        SatBody::PositionV3(b) => b.satellites.count,
-        SatBody::Raw(_) => 0,
+        SatBody::PositionV2(b) => b.satellites,
+        SatBody::CellFragment(b) => b.fragments,
+        SatBody::BeamhoppingTimePlan(b) => b.plans,
+        SatBody::PositionV3(b) => b.satellites,
+        SatBody::TimeAssociation(_) | SatBody::Raw(_) => Part {
+            start: 0,
+            length: 0,
+            count: 0,
+        },
     }
 }
 
-fn show_count(out: &mut [u8; 8192], used: usize, id: u8, count: usize) -> usize {
+fn show_list(out: &mut [u8; 8192], used: usize, id: u8, part: Part) -> usize {
     let at = list_path(id);
     if at.length == 0 {
         return used;
     }
-    field(out, used, at, b"len", count as u64)
+    list(out, used, at, part)
 }
 
 fn entries_in(id: u8, body: &[u8]) -> usize {
