@@ -1,14 +1,10 @@
 // Lists every field of satellite access table bodies.
 // Each line of the input is a case: a table id byte and a body, in hexadecimal.
 // For each case it writes `case id N bytes N`, a line `name value` for every field, or the refusal, and an empty line.
-mod associations;
+use listing::text::put_out;
+
 mod case;
-mod fragments;
 mod input;
-mod orbits;
-mod plans;
-mod satellites;
-mod text;
 
 // A proved loop has to end, and nothing says that the input does.
 // So the loop counts its turns down, from a number that no run uses up.
@@ -27,5 +23,5 @@ fn main() {
     let mut body = [0u8; 65536];
     let state = take_all(&mut out, &mut body);
     let used = input::take_rest(&mut out, &body, state);
-    text::put_out(&out, used);
+    put_out(&out, used);
 }

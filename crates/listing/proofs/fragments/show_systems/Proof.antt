@@ -2,8 +2,8 @@
 -- Assumes nothing.
 use native.Mathlib.Omega.{arith}
 use Prim.Native.Nat.{_-_}
-use Rattle.sat_entries.proofs.fragments.show_systems.Statement.{statement}
-use Rattle.sat_entries.proofs.fragments.show_systems.Tie as tie
+use Rattle.listing.proofs.fragments.show_systems.Statement.{statement}
+use Rattle.listing.proofs.fragments.show_systems.Tie as tie
 
 abbrev Inv-loop : tie.InvT-loop
 Inv-loop out₀ used at body part kind used₀ i₀ i-end out used' i = Unit {0}

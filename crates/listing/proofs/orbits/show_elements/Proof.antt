@@ -2,8 +2,8 @@
 -- Assumes nothing.
 use native.Mathlib.Omega.{arith}
 use Prim.Native.Nat.{_-_}
-use Rattle.sat_entries.proofs.orbits.show_elements.Statement.{statement}
-use Rattle.sat_entries.proofs.orbits.show_elements.Tie as tie
+use Rattle.listing.proofs.orbits.show_elements.Statement.{statement}
+use Rattle.listing.proofs.orbits.show_elements.Tie as tie
 
 abbrev Inv-loop : tie.InvT-loop
 Inv-loop out₀ used at elements used₀ i₀ out used' i = Unit {0}

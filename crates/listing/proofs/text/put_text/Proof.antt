@@ -2,8 +2,8 @@
 -- Assumes nothing.
 use native.Mathlib.Omega.{arith}
 use Prim.Native.Nat.{_-_}
-use Rattle.sat_entries.proofs.text.put_text.Statement.{statement}
-use Rattle.sat_entries.proofs.text.put_text.Tie as tie
+use Rattle.listing.proofs.text.put_text.Statement.{statement}
+use Rattle.listing.proofs.text.put_text.Tie as tie
 
 abbrev Inv-loop : tie.InvT-loop
 Inv-loop out₀ used text used₀ i₀ i-end out used' i = Unit {0}
