@@ -10,6 +10,9 @@ ghost use Rattle.runs.specs.Steps.{stored};
 ghost use Rattle.write_runs.specs.Went.{Placed, Ran};
 ghost use Rattle.write_plans.specs.Ragged.{Ragged};
 ghost use Rattle.write_plans.specs.Slots.{packedBits};
+use bits::Bits;
+use bits::read_u;
+use bits::refusal_of;
 use bits::value_at;
 use format::Refusal;
 use runs::Step;
@@ -172,15 +175,15 @@ fn write_ended(body: &[u8], at: usize, out: &mut [u8], place: usize) -> Step
     ensures { λ r. ⌜ Ran (now (body .entry)) 0 (plan "plan_length" hopping) at place (now (out .entry)) (λ _. end) (now (out .exit)) r ⌝ }
 {
     let have = 8 * body.len();
-    let inside = at + 12;
-    if have < inside {
-        return Step::Refused(Refusal {
-            number: 1,
-            need: inside,
-            have,
-        });
-    }
-    let stop = inside + 8 * value_at(body, at, 12) as usize;
+    let r = read_u(body, at, 12);
+    let Bits::Value {
+        value: bytes,
+        next: inside,
+    } = r
+    else {
+        return Step::Refused(refusal_of(r));
+    };
+    let stop = inside + 8 * (bytes as usize);
     let hopping = write_hopping(body, inside, stop, out, place);
     let Step::Done {
         at: a,
