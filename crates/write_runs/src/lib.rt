@@ -11,14 +11,11 @@ ghost use Rattle.format.specs.Tables.{times};
 ghost use Rattle.runs.specs.Lines.{widthOf, markOk, marksOk, line, run, runOf};
 ghost use Rattle.runs.specs.Steps.{lastOf, stored};
 ghost use Rattle.write_runs.specs.Went.{Placed, Ran, Moved};
-use bits::Bits;
 use bits::put_be;
 use bits::put_byte;
 use bits::put_pair;
 use bits::put_quad;
 use bits::put_word;
-use bits::read_u;
-use bits::refusal_of;
 use bits::value_at;
 use format::Refusal;
 use runs::Step;
@@ -65,14 +62,21 @@ fn write_line(body: &[u8], at: usize, mark: u8, out: &mut [u8], place: usize) ->
     ensures { λ r. ⌜ lastOf r < 2 ^ widthOf mark ⌝ }
     ensures { λ r. ⌜ Moved at place (mark ∷ []) r ⌝ }
 {
-    let r = read_u(body, at, width_of(mark));
-    let Bits::Value { value: v, next } = r else {
-        return Step::Refused(refusal_of(r));
-    };
+    let have = 8 * body.len();
+    let width = width_of(mark);
+    let need = at + width;
+    if have < need {
+        return Step::Refused(Refusal {
+            number: 1,
+            need,
+            have,
+        });
+    }
+    let v = value_at(body, at, width);
     let size = size_of(mark);
     put(out, place, size, shown_of(mark, v));
     Step::Done {
-        at: next,
+        at: need,
         place: place + size,
         last: v,
     }
