@@ -1,23 +1,24 @@
 /* Satellite access table bodies, their plain bodies and their ledgers.
  *
- * sat_ledger_write files a body: it stores the ledger at the start of `out`. sat_ledger_read takes a ledger back to the plain
- * body. sat_plain_body gives a body's plain body without its ledger. All three return 0, or the number of the refusal. On 0 the
- * bytes of `out` behind the result keep their values; after a refusal all of them do.
+ * sat_ledger_write files a body: it stores the ledger at the start of `out`. sat_ledger_read takes a ledger back to
+ * the plain body. sat_plain_body gives a body's plain body without its ledger. All three return 0, or the number of
+ * the refusal. On 0 the bytes of `out` behind the result keep their values; after a refusal all of them do.
  *
- * The further calls are given the same bytes and the length of the buffer, not the buffer. They write nothing, keep nothing
- * between calls, and may be made before, after or without the call that fills the buffer:
+ * The further calls are given the same bytes and the length of the buffer, not the buffer. They write nothing, keep
+ * nothing between calls, and may be made before, after or without the call that fills the buffer:
  *   _need, _have       the two values of the refusal; 0 where nothing is refused
  *   _length, _table_id the length of the result and its table id; 0 after a refusal
  *
- * Buffers that always suffice: 6 + 2 * body_len bytes for a ledger, so never more than SAT_LEDGER_MAX; for a plain body body_len
- * bytes, or SAT_BODY_MAX where it comes from a ledger. The sat_plain_body calls take some 10,000 bytes of stack, the others 2,000.
+ * Buffers that always suffice: 6 + 2 * body_len bytes for a ledger, so never more than SAT_LEDGER_MAX; for a plain body
+ * body_len bytes, or SAT_BODY_MAX where it comes from a ledger. The sat_plain_body calls take some 10,000 bytes of
+ * stack, the others 2,000.
  *
- * Pointers: (NULL, 0) is nothing, an empty body, an empty ledger or no buffer, and is answered as any other pointer with length 0;
- * tests/c/pages.c tries it for each pointer of each call. With a length above 0 a pointer leads to that many bytes.
- * `out` must not overlap the input: no promise holds then, though nothing stops such a call.
+ * Pointers: (NULL, 0) is nothing, an empty body, an empty ledger or no buffer, and is answered as any other pointer
+ * with length 0; tests/c/pages.c tries it for each pointer of each call. With a length above 0 a pointer leads to that
+ * many bytes. `out` must not overlap the input: no promise holds then, though nothing stops such a call.
  *
  * Number  Refused since                                               need, have
- *  1      one field goes past the end of the body                     last bit wanted, bits in the body
+ *  1      one field goes past the end of the body                     bits up to the field's end, bits in the body
  *  2      the body is empty (table ids 2 and 4)                       1, 0
  *  3      no room for an orbital position                             24, bits that remain (so in all to 13)
  *  4      no room for the orbital elements                            344
@@ -46,7 +47,8 @@
  *         0 or 1, or an unused slot bit is set
  * 26      ledger: its plain body has more than 4,096 bytes            that length, 4096
  *
- * sat_ledger_write and sat_plain_body refuse by 1 to 22, the same bodies by the same numbers but for 22; sat_ledger_read by 22 to 26.
+ * sat_ledger_write and sat_plain_body refuse by 1 to 22, the same bodies by the same numbers but for 22;
+ * sat_ledger_read refuses by 22 to 26.
  */
 #ifndef SAT_LEDGER_H
 #define SAT_LEDGER_H

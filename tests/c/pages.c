@@ -1,6 +1,7 @@
-/* Buffers against unreadable pages: pages BODIES LEDGERS PLAINS, three files with one case a line. BODIES and LEDGERS are the replay
- * list with the Rust's answers, PLAINS what tests/replay/decode.py makes of the ledgers; none comes from the code under test.
- * A byte touched outside a buffer ends the program. Every tenth case and the first 60 are tried. */
+/* Buffers against unreadable pages: pages BODIES LEDGERS PLAINS, three files with one case a line. BODIES and LEDGERS
+ * are the replay list with the Rust's answers, PLAINS what tests/replay/decode.py makes of the ledgers; none comes from
+ * the code under test. A byte touched outside a buffer ends the program. Every tenth case and the first 60 are tried.
+ */
 #define _DEFAULT_SOURCE
 #include <stdio.h>
 #include <stdlib.h>
@@ -81,8 +82,8 @@ typedef struct {
 } Call;
 
 static const Call
-    WRITE = {"sat_ledger_write", sat_ledger_write, sat_ledger_write_need, sat_ledger_write_have, sat_ledger_write_length,
-             sat_ledger_write_table_id},
+    WRITE = {"sat_ledger_write", sat_ledger_write, sat_ledger_write_need, sat_ledger_write_have,
+             sat_ledger_write_length, sat_ledger_write_table_id},
     READ = {"sat_ledger_read", read_, read_need, read_have, read_length, read_table_id},
     PLAIN = {"sat_plain_body", sat_plain_body, sat_plain_body_need, sat_plain_body_have, sat_plain_body_length,
              sat_plain_body_table_id};
@@ -165,7 +166,8 @@ static void nothing(const Call *f, uint8_t id, const uint8_t *in, size_t n, Want
 
 static void nothings(void)
 {
-    static const uint8_t empty0[] = {0, 4, 1, 0, 0, 0}, empty3[] = {0, 4, 1, 3, 0, 0}, raw5[] = {0, 2, 1, 5}, seven[] = {7};
+    static const uint8_t empty0[] = {0, 4, 1, 0, 0, 0}, empty3[] = {0, 4, 1, 3, 0, 0}, raw5[] = {0, 2, 1, 5};
+    static const uint8_t seven[] = {7};
     nothing(&WRITE, 0, NULL, 0, result(empty0, 6));
     nothing(&WRITE, 2, NULL, 0, refusal(2, 1, 0));
     nothing(&WRITE, 3, NULL, 0, result(empty3, 6));
@@ -185,11 +187,13 @@ static void nothings(void)
 /* ---- ledgers that no body has; the places are counted on document 01's widths */
 
 #define CLOCK "0000000000000000" "00" "0000"
+#define LISTS "00" "0000" "00" "0000"
 static const struct {
     const char *ledger;
     size_t number, place;
 } damaged[] = {
-    /* id 0: count 4, satellite_id 6, reserved 10, position_system 11, orbital_position 12, west_east_flag 14, reserved 15 */
+    /* id 0: count 4, satellite_id 6, reserved 10, position_system 11, orbital_position 12, west_east_flag 14,
+     * reserved 15 */
     {"000e0100" "0001" "01000007" "00" "00" "0120" "01" "00", 25, 6},
     {"000e0100" "0001" "00000007" "80" "00" "0120" "01" "00", 25, 10},
     {"000e0100" "0001" "00000007" "00" "02" "0120" "01" "00", 25, 11},
@@ -199,22 +203,26 @@ static const struct {
     {"000d0100" "0001" "00000007" "00" "00" "0120" "01", 23, 15},
     {"000d0100" "0001" "00000007" "00" "00" "0120" "02", 25, 14},
     {"000f0100" "0001" "00000007" "00" "00" "0120" "01" "00" "00", 23, 16},
-    /* id 1: id 6, first 10, last 11, reserved 12, latitude 13, reserved 17, longitude 18, max_distance 22, reserved 26, count 27 */
-    {"00210101" "0001" "00000007" "01" "00" "00" "00020000" "00" "00000000" "00000000" "00" "0000" "00" "0000" "00" "0000", 25, 13},
-    {"00210101" "0001" "00000007" "01" "00" "00" "fffdffff" "00" "00000000" "00000000" "00" "0000" "00" "0000" "00" "0000", 25, 13},
-    {"00210101" "0001" "00000007" "01" "00" "00" "00000000" "00" "fffbffff" "00000000" "00" "0000" "00" "0000" "00" "0000", 25, 18},
-    {"00210101" "0001" "00000007" "01" "00" "00" "00000000" "00" "00000000" "01000000" "00" "0000" "00" "0000" "00" "0000", 25, 22},
-    {"00210101" "0001" "00000007" "01" "00" "00" "00000000" "00" "00000000" "00000000" "00" "0400" "00" "0000" "00" "0000", 25, 27},
+    /* id 1: id 6, first 10, last 11, reserved 12, latitude 13, reserved 17, longitude 18, max_distance 22, reserved 26,
+     * count 27 */
+    {"00210101" "0001" "00000007" "01" "00" "00" "00020000" "00" "00000000" "00000000" "00" "0000" LISTS, 25, 13},
+    {"00210101" "0001" "00000007" "01" "00" "00" "fffdffff" "00" "00000000" "00000000" "00" "0000" LISTS, 25, 13},
+    {"00210101" "0001" "00000007" "01" "00" "00" "00000000" "00" "fffbffff" "00000000" "00" "0000" LISTS, 25, 18},
+    {"00210101" "0001" "00000007" "01" "00" "00" "00000000" "00" "00000000" "01000000" "00" "0000" LISTS, 25, 22},
+    {"00210101" "0001" "00000007" "01" "00" "00" "00000000" "00" "00000000" "00000000" "00" "0400" LISTS, 25, 27},
     /* id 2: type 4, four leap flags 5 to 8, base 9, reserved 17, extension 18, seconds 20, nanoseconds 28 */
     {"001e0102" "01" "00" "00" "02" "00" CLOCK "0000000000000000" "00000000", 25, 7},
     {"001e0102" "01" "00" "00" "00" "00" "0000000200000000" "00" "0000" "0000000000000000" "00000000", 25, 9},
-    /* id 3: id 6, reserved 10 and 11, mode 12, clocks 13 and 24, reserved 35, bit_map_size 36, reserved 38, current_slot 39, slots 41 */
+    /* id 3: id 6, reserved 10 and 11, mode 12, clocks 13 and 24, reserved 35, bit_map_size 36, reserved 38,
+     * current_slot 39, slots 41 */
     {"00290103" "0001" "00000007" "00" "00" "04" CLOCK CLOCK "00" "0009" "00" "0000" "ff80", 25, 12},
-    {"00290103" "0001" "00000007" "00" "00" "01" "0000000000000000" "00" "0200" CLOCK "00" "0009" "00" "0000" "ff80", 25, 22},
+    {"00290103" "0001" "00000007" "00" "00" "01" "0000000000000000" "00" "0200" CLOCK "00" "0009" "00" "0000" "ff80",
+     25, 22},
     {"00290103" "0001" "00000007" "00" "00" "01" CLOCK CLOCK "00" "8009" "00" "0000" "ff80", 25, 36},
     {"00290103" "0001" "00000007" "00" "00" "01" CLOCK CLOCK "00" "0009" "00" "0000" "ff81", 25, 41},
     {"00290103" "0001" "00000007" "00" "00" "01" CLOCK CLOCK "00" "0009" "00" "0000" "ffc0", 25, 41},
-    /* id 4: versions 4 and 5, year 6, reserved 7, day 8, fraction 10, count 14, satellite_id 16, reserved 20, flags 21 to 25, count 26 */
+    /* id 4: versions 4 and 5, year 6, reserved 7, day 8, fraction 10, count 14, satellite_id 16, reserved 20,
+     * flags 21 to 25, count 26 */
     {"001a0104" "01" "00" "00" "00" "0200" "00000000" "0001" "00000007" "00" "00" "00" "00" "00" "00" "0000", 25, 8},
     {"001a0104" "01" "00" "00" "00" "0000" "00000000" "0001" "00000007" "00" "00" "00" "00" "00" "02" "0000", 25, 25},
 };

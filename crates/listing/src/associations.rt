@@ -1,15 +1,15 @@
 // Table id 2: a time association.
-use crate::text::Path;
-use crate::text::absent;
-use crate::text::clock;
-use crate::text::field;
-use crate::text::field_8;
-use crate::text::field_32;
-use crate::text::flag;
-use crate::text::under;
 use association::MaybeLeapInfo;
 use association::TimeAssociationBody;
 use clocks::Clock;
+use listing_text::Path;
+use listing_text::absent;
+use listing_text::clock;
+use listing_text::field;
+use listing_text::field_8;
+use listing_text::field_32;
+use listing_text::flag;
+use listing_text::under;
 
 pub fn show(out: &mut [u8; 8192], used: usize, at: Path, a: TimeAssociationBody) -> usize {
     let kind = a.association_type;

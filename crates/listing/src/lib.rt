@@ -4,4 +4,3 @@ pub mod fragments;
 pub mod orbits;
 pub mod plans;
 pub mod satellites;
-pub mod text;

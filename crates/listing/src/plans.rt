@@ -1,16 +1,16 @@
 // Table id 3: a beamhopping time plan.
-use crate::text::Path;
-use crate::text::bytes_field;
-use crate::text::bytes_of;
-use crate::text::clock;
-use crate::text::field_8;
-use crate::text::field_16;
-use crate::text::field_32;
-use crate::text::list;
-use crate::text::place;
-use crate::text::slots_field;
-use crate::text::under;
 use clocks::Clock;
+use listing_text::Path;
+use listing_text::bytes_field;
+use listing_text::bytes_of;
+use listing_text::clock;
+use listing_text::field_8;
+use listing_text::field_16;
+use listing_text::field_32;
+use listing_text::list;
+use listing_text::place;
+use listing_text::slots_field;
+use listing_text::under;
 use parts::Part;
 use plan::BeamhoppingPlan;
 use plan_modes::BeamhoppingMode;

@@ -1,10 +1,10 @@
 // Table id 0: a satellite and its position.
-use crate::text::Path;
-use crate::text::field_8;
-use crate::text::field_16;
-use crate::text::field_32;
-use crate::text::flag;
-use crate::text::under;
+use listing_text::Path;
+use listing_text::field_8;
+use listing_text::field_16;
+use listing_text::field_32;
+use listing_text::flag;
+use listing_text::under;
 use position::PositionSystem;
 use position::PositionV2Satellite;
 

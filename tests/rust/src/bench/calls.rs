@@ -9,6 +9,7 @@ extern "C" {
     fn sat_ledger_write_length(id: u8, body: *const u8, n: usize, room: usize) -> usize;
     fn sat_ledger_read(ledger: *const u8, n: usize, out: *mut u8, room: usize) -> u32;
     fn sat_ledger_read_length(ledger: *const u8, n: usize, room: usize) -> usize;
+    fn sat_plain_body(id: u8, body: *const u8, n: usize, out: *mut u8, room: usize) -> u32;
 }
 
 #[derive(Clone, Copy, PartialEq)]
@@ -23,14 +24,20 @@ pub enum Call {
     RustPlain,
     /// The archive's plain body of a ledger.
     Read,
+    /// The archive's plain body of a body; its instructions are counted, its times not taken.
+    PlainBody,
 }
 
 impl Call {
+    /// Those that are timed.
     pub const ALL: [Call; 5] =
         [Call::Parse, Call::RustLedger, Call::Write, Call::RustPlain, Call::Read];
 
     pub fn named(name: &str) -> Option<Call> {
         let names = ["parse", "rust-ledger", "write", "rust-plain", "read"];
+        if name == "plain-body" {
+            return Some(Call::PlainBody);
+        }
         names.iter().position(|&n| n == name).map(|i| Call::ALL[i])
     }
 }
@@ -58,6 +65,7 @@ pub fn counted(call: Call, cases: &[Case], turns: usize, room: &mut Room) {
             Call::Write => cases.iter().for_each(|c| write(c.id, &c.body, &mut room.out)),
             Call::RustPlain => cases.iter().for_each(|c| rust_plain(c, &mut room.out)),
             Call::Read => cases.iter().for_each(|c| read(&c.ledger, &mut room.out)),
+            Call::PlainBody => cases.iter().for_each(|c| plain_body(c.id, &c.body, &mut room.out)),
         }
     }
 }
@@ -89,7 +97,13 @@ fn read(ledger: &[u8], out: &mut [u8]) {
     assert_eq!(r, 0);
 }
 
-/// The archive makes the helper's ledger, and from it the Rust's plain body.
+fn plain_body(id: u8, body: &[u8], out: &mut [u8]) {
+    // SAFETY: as above.
+    let r = unsafe { sat_plain_body(id, body.as_ptr(), body.len(), out.as_mut_ptr(), out.len()) };
+    assert_eq!(r, 0);
+}
+
+/// The archive makes the helper's ledger, and from it, and of the body itself, the Rust's plain body.
 pub fn check(case: &Case) {
     let (body, ledger, plain) = (&case.body, &case.ledger, &case.plain);
     let mut out = vec![0u8; 8198];
@@ -103,4 +117,7 @@ pub fn check(case: &Case) {
     // SAFETY: as above.
     let length = unsafe { sat_ledger_read_length(ledger.as_ptr(), ledger.len(), out.len()) };
     assert_eq!(length, plain.len());
+    out.fill(0);
+    plain_body(case.id, body, &mut out);
+    assert!(out.starts_with(plain), "the archive's plain body of the body is another one");
 }

@@ -1,4 +1,4 @@
-// The text that the program writes. It is gathered in `out`, of which `used` bytes are in use.
+// The text that sat_entries writes. It is gathered in `out`, of which `used` bytes are in use.
 // It goes out when that is full.
 // A `used` of 8193 says that nothing more can be written: from then on all text is dropped.
 use clocks::Clock;

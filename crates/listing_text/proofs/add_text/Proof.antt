@@ -2,8 +2,8 @@
 -- Assumes nothing.
 use native.Mathlib.Omega.{arith}
 use Prim.Native.Nat.{_-_}
-use Rattle.listing.proofs.text.add_text.Statement.{statement}
-use Rattle.listing.proofs.text.add_text.Tie as tie
+use Rattle.listing_text.proofs.add_text.Statement.{statement}
+use Rattle.listing_text.proofs.add_text.Tie as tie
 
 abbrev Inv-loop : tie.InvT-loop
 Inv-loop text₀ length more length₀ i₀ i-end text length' i = Unit {0}

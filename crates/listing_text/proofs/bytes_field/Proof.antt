@@ -1,15 +1,15 @@
--- `slots_field` ends and keeps within its buffers.
+-- `bytes_field` ends and keeps within its buffers.
 -- Assumes nothing.
 use native.Mathlib.Omega.{arith}
 use Prim.Native.Nat.{_-_}
-use Rattle.listing.proofs.text.slots_field.Statement.{statement}
-use Rattle.listing.proofs.text.slots_field.Tie as tie
+use Rattle.listing_text.proofs.bytes_field.Statement.{statement}
+use Rattle.listing_text.proofs.bytes_field.Tie as tie
 
 abbrev Inv-loop : tie.InvT-loop
-Inv-loop out₀ used bytes count used' used₀ i₀ out used'' i = Unit {0}
+Inv-loop out₀ used bytes used' used₀ i₀ i-end out used'' i = Unit {0}
 
 abbrev μ-loop : tie.MeasureT-loop
-μ-loop out₀ used bytes count used' used₀ i₀ out used'' i = count - i
+μ-loop out₀ used bytes used' used₀ i₀ i-end out used'' i = i-end - i
 
 put-path-requires : tie.Need-put-path-requires Inv-loop μ-loop
 put-path-requires c κs = tt
@@ -23,11 +23,20 @@ put-requires-2 c κs = omega arith
 loop-holds : tie.Need-loop-holds Inv-loop μ-loop
 loop-holds c = tt
 
-slot-requires : tie.Need-slot-requires Inv-loop μ-loop
-slot-requires c κs = tt
+shared-slice-read-byte : tie.Need-shared-slice-read-byte Inv-loop μ-loop
+shared-slice-read-byte c = omega arith
+
+digit-requires : tie.Need-digit-requires Inv-loop μ-loop
+digit-requires c κs = tt
 
 put-requires-3 : tie.Need-put-requires-3 Inv-loop μ-loop
 put-requires-3 c κs = omega arith
+
+digit-requires-2 : tie.Need-digit-requires-2 Inv-loop μ-loop
+digit-requires-2 c κs = omega arith
+
+put-requires-4 : tie.Need-put-requires-4 Inv-loop μ-loop
+put-requires-4 c κs = omega arith
 
 add-i : tie.Need-add-i Inv-loop μ-loop
 add-i c = omega arith
@@ -38,14 +47,14 @@ loop-less c = omega arith
 loop-again : tie.Need-loop-again Inv-loop μ-loop
 loop-again c = tt
 
-put-requires-4 : tie.Need-put-requires-4 Inv-loop μ-loop
-put-requires-4 c κs = omega arith
+put-requires-5 : tie.Need-put-requires-5 Inv-loop μ-loop
+put-requires-5 c κs = omega arith
 
 returns : tie.Need-returns Inv-loop μ-loop
 returns c = tt
 
-pub slots-field-spec : {M : Type 1} → statement M
-slots-field-spec =
+pub bytes-field-spec : {M : Type 1} → statement M
+bytes-field-spec =
     tie.close
     (tie.spec
     Inv-loop
@@ -54,10 +63,13 @@ slots-field-spec =
     put-requires
     put-requires-2
     loop-holds
-    slot-requires
+    shared-slice-read-byte
+    digit-requires
     put-requires-3
+    digit-requires-2
+    put-requires-4
     add-i
     loop-less
     loop-again
-    put-requires-4
+    put-requires-5
     returns)

@@ -1,21 +1,21 @@
--- `put_text` ends and keeps within its buffers.
+-- `put_path` ends and keeps within its buffers.
 -- Assumes nothing.
 use native.Mathlib.Omega.{arith}
 use Prim.Native.Nat.{_-_}
-use Rattle.listing.proofs.text.put_text.Statement.{statement}
-use Rattle.listing.proofs.text.put_text.Tie as tie
+use Rattle.listing_text.proofs.put_path.Statement.{statement}
+use Rattle.listing_text.proofs.put_path.Tie as tie
 
 abbrev Inv-loop : tie.InvT-loop
-Inv-loop out₀ used text used₀ i₀ i-end out used' i = Unit {0}
+Inv-loop out₀ used used₀ text length i₀ out used' i = Unit {0}
 
 abbrev μ-loop : tie.MeasureT-loop
-μ-loop out₀ used text used₀ i₀ i-end out used' i = i-end - i
+μ-loop out₀ used used₀ text length i₀ out used' i = 64 - i
 
 loop-holds : tie.Need-loop-holds Inv-loop μ-loop
 loop-holds c = tt
 
-shared-slice-read-put : tie.Need-shared-slice-read-put Inv-loop μ-loop
-shared-slice-read-put c = omega arith
+array-read-put : tie.Need-array-read-put Inv-loop μ-loop
+array-read-put c = omega arith
 
 put-requires : tie.Need-put-requires Inv-loop μ-loop
 put-requires c κs = tt
@@ -32,14 +32,14 @@ loop-again c = tt
 returns : tie.Need-returns Inv-loop μ-loop
 returns c = tt
 
-pub put-text-spec : {M : Type 1} → statement M
-put-text-spec =
+pub put-path-spec : {M : Type 1} → statement M
+put-path-spec =
     tie.close
     (tie.spec
     Inv-loop
     μ-loop
     loop-holds
-    shared-slice-read-put
+    array-read-put
     put-requires
     add-i
     loop-less

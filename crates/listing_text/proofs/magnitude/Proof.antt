@@ -12,8 +12,8 @@ use mir.Val.{toZ, ofZ, Fits, SFits}
 use mir.Facts.{toZ-ofZ}
 use borrow.Author.Needs.{needs}
 use borrow.Author.Tests.{leb-false, le-ltb}
-use Rattle.listing.proofs.text.magnitude.Statement.{statement}
-use Rattle.listing.proofs.text.magnitude.Tie as tie
+use Rattle.listing_text.proofs.magnitude.Statement.{statement}
+use Rattle.listing_text.proofs.magnitude.Tie as tie
 
 plus : (z : ℤ) → SFits w32 z → leZ (pos 0) z ≡ true → T (nonNeg z) × Fits w64 (natAbs z)
 plus (pos n) f h = (tt, record { fits = omega (arith, f .sfits) })
