@@ -2,21 +2,19 @@
 use entry_ids::IdsAnswer;
 use entry_ids::entry_ids;
 use format::Refusal;
-use listing::associations;
-use listing::fragments;
-use listing::orbits;
-use listing::plans;
-use listing::satellites;
-use listing_text::Path;
-use listing_text::bytes_field;
-use listing_text::bytes_of;
-use listing_text::element;
-use listing_text::list;
-use listing_text::put;
-use listing_text::put_number;
-use listing_text::put_text;
-use listing_text::root;
-use listing_text::under;
+use list_tables::associations;
+use list_tables::fragments;
+use list_tables::satellites;
+use list_text::Path;
+use list_text::bytes_field;
+use list_text::bytes_of;
+use list_text::element;
+use list_text::list;
+use list_text::put;
+use list_text::put_number;
+use list_text::put_text;
+use list_text::root;
+use list_text::under;
 use parts::Part;
 use sat::BodyHeader;
 use sat::CountAnswer;
@@ -68,7 +66,7 @@ fn show_refusal(out: &mut [u8; 8192], used: usize, f: Refusal) -> usize {
 fn show_header(out: &mut [u8; 8192], used: usize, id: u8, body: &[u8]) -> usize {
     let found = header(id, body);
     match found {
-        BodyHeader::Header(h) => orbits::show_header(out, used, root(), h),
+        BodyHeader::Header(h) => list_ephemeris::show_header(out, used, root(), h),
         BodyHeader::None => used,
         BodyHeader::Refused(f) => show_refusal(out, used, f),
     }
@@ -160,8 +158,8 @@ fn show_entry(
         SatEntry::PositionV2(s) => satellites::show(out, used, at, s),
         SatEntry::CellFragment(f) => fragments::show(out, used, at, body, f),
         SatEntry::TimeAssociation(a) => associations::show(out, used, at, a),
-        SatEntry::BeamhoppingTimePlan(p) => plans::show(out, used, at, body, p),
-        SatEntry::PositionV3(s) => orbits::show(out, used, at, body, s, elements),
+        SatEntry::BeamhoppingTimePlan(p) => list_plans::show(out, used, at, body, p),
+        SatEntry::PositionV3(s) => list_ephemeris::show(out, used, at, body, s, elements),
         SatEntry::Raw(part) => { bytes_field(out, used, under(at, b"Raw"), bytes_of(body, part)) }
     }
 }

@@ -1,7 +1,7 @@
 // The cases of the input: a line for each, in hexadecimal, read a block of bytes at a time.
 use crate::case::show_case;
-use listing_text::bytes_of;
-use listing_text::put_text;
+use list_text::bytes_of;
+use list_text::put_text;
 use parts::Part;
 
 // What there is of the line in hand. The body's bytes are kept beside it, of which `count` are there.

@@ -1,7 +1,7 @@
 // Lists every field of satellite access table bodies.
 // Each line of the input is a case: a table id byte and a body, in hexadecimal.
 // For each case it writes `case id N bytes N`, a line `name value` for every field, or the refusal, and an empty line.
-use listing_text::put_out;
+use list_text::put_out;
 
 mod case;
 mod input;
