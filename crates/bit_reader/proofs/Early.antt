@@ -1,7 +1,8 @@
 -- A number read by a reader that stands in a local, with a `let .. else` behind it:
 --     let r = reader.read_u(n);
 --     let Bits::Value { value, .. } = r else { .. refusal_of(r) .. };
--- Assumes nothing: the rules of the logic (W), and that the table of calls is monotone under a frame (fm), are parameters.
+-- Assumes nothing: the rules of the logic (W), and that the table of calls is monotone under a frame (fm), are
+-- parameters.
 use mathlib.Core.Path.{_≡_, refl, sym, ap, subst}
 use Prim.Native.Nat.{ℕ, zero, suc, _≤_, _^_}
 use mathlib.Core.List.{List, [], _∷_}
@@ -135,7 +136,8 @@ module _ {M : Type 1} {𝓤 : URA M} {H : Heap 𝓤} {A : Atoms 𝓤} {K : Type 
         (init t (suc (suc (suc nx))) (for-x .room) (subst (λ (z : Val). Holds (hasTy S′.mir z) × WT z) (ap only (EL.tells S.the-type S′.the-laws r _ is)) (EL.lawful S.the-type S′.the-laws 𝓤 H A W tt .typed r _ is .0))) $
         k r (d .0))))
 
-  -- the branch on what was read into x. refused, value: what is to be shown of `else`, with the refusal in y, and of the rest, with the number in v
+  -- the branch on what was read into x. refused, value: what is to be shown of `else`, with the refusal in y, and of
+  -- the rest, with the number in v
   module _ {Γ : List (Item 𝓤)} {E : Env 𝓤 H} {C : Calls 𝓤 H} {Λ : Loops 𝓤 H} {end : Post 𝓤 H} {els rest : Body} {#f : Name} {x v y lx lv ly : ℕ} where
     branches : K → FmC 𝓤 H (W .laws) C → (at-mem : Memory → SProp 𝓤) (run : Routine → Fun 𝓤) → Triple 𝓤 (C #f) (Meant 𝓤 H A refusal-of.ended (refusal-of.clauses 𝓤 H A at-mem run))
         → (κ : Lft) (q : Share) (l : ℕ) (h : BitReader) (w : ℕ) → w ≤ 64 → (nx nv ny : ℕ) → Unset H A E Γ S′.mir x lx nx
@@ -158,7 +160,8 @@ module _ {M : Type 1} {𝓤 : URA M} {H : Heap 𝓤} {A : Atoms 𝓤} {K : Type 
         refused-arm t (load t (found t (for-x .spot) (vrt t refl (fld t refl (stop t)))) (look-tag t (suc (suc (suc nx))) (part t (for-x .kept _)))) $
         calls-refusal t fm at-mem run known f (suc (suc nx)) (suc (suc ny)) (for-x .spot) (for-x .kept _) (record { spot = for-y (Refused f) .spot; room = for-y (Refused f) .room; kept = for-y (Refused f) .kept }) (refused f e)
 
-  -- both: the reader h is local b at l, and w bits are read. a, x, v, y: the locals of the reference to it, of the answer, of the number and of the refusal; na, nx, nv, ny: their entries in the context
+  -- both: the reader h is local b at l, and w bits are read. a, x, v, y: the locals of the reference to it, of the
+  -- answer, of the number and of the refusal; na, nx, nv, ny: their entries in the context
   module _ {Γ : List (Item 𝓤)} {E : Env 𝓤 H} {C : Calls 𝓤 H} {Λ : Loops 𝓤 H} {end : Post 𝓤 H} {els rest : Body} {#read #refusal : Name} {τ : Ty} {b a x v y l la lx lv ly : ℕ} where
     pub reads-or-refuses : K → FmC 𝓤 H (W .laws) C → (at-mem : Memory → SProp 𝓤) (run : Routine → Fun 𝓤)
         → Triple 𝓤 (C #read) (Meant 𝓤 H A (method S.the-row) (clauses S.the-row ReadNeed ReadSays 𝓤)) → Triple 𝓤 (C #refusal) (Meant 𝓤 H A refusal-of.ended (refusal-of.clauses 𝓤 H A at-mem run))

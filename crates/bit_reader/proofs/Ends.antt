@@ -1,4 +1,5 @@
--- Where a function that has a reader in a local returns: the reader's cell is taken out of its memory, and the locals are freed.
+-- Where a function that has a reader in a local returns: the reader's cell is taken out of its memory, and the locals
+-- are freed.
 -- Assumes nothing: the rules of the logic (W) are a parameter.
 use mathlib.Core.Path.{refl}
 use Prim.Native.Nat.{ℕ, zero, suc, _+_, _*_}

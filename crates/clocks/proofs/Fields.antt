@@ -27,7 +27,8 @@ small s p l = omega (arith, l .short, l .within)
 pub after : {v n : ℕ} {r : Bits} (s : List ℕ) (p w : ℕ) → Place s p → r ≡ readAt s p w → r ≡ Value v n → Place s n
 after s p w l e m = next-place p w m e (l .short)
 
--- what reading by the format's description finds, where the first, the second or the third field is refused, and where none is
+-- what reading by the format's description finds, where the first, the second or the third field is refused, and where
+-- none is
 module _ {u : Bits} (s : List ℕ) (p : ℕ) (l : Place s p) (a : u ≡ readAt s p 33) where
   pub cut₁ : {f g : Refusal} → u ≡ Refused f → g ≡ refusalOf u → ca.Refused g ≡ clockAt s p
   unfolding clockAt

@@ -58,7 +58,8 @@ unfoldable pub walkRefusal : Walked → Refusal
 walkRefusal (walked.Entries n p e) = refuse 0 0 0
 walkRefusal (walked.Refused f) = f
 
--- what holds of a walk that began at a place q: at the place p that it hands out an entry can be read, and it ended no earlier than q
+-- what holds of a walk that began at a place q: at the place p that it hands out an entry can be read, and it ended no
+-- earlier than q
 pub record Placed (b : List ℕ) (q p e : ℕ) : Type 0 where
   pub short : length b ≤ 4096
   pub within : p ≤ 8 * length b

@@ -1,4 +1,5 @@
-// Going through the entries of a body, whatever its table: how many there are, where one of them starts, and where the last one ends.
+// Going through the entries of a body, whatever its table: how many there are, where one of them starts, and where the
+// last one ends.
 ghost use mathlib.Core.Path.{_≡_};
 ghost use Prim.Native.Nat.{ℕ, _-_, _*_, _%_, _≤_};
 ghost use lib.ListN.{length, drop};
@@ -30,8 +31,8 @@ use position_v3::read_header;
 use position_v3::read_satellite_v3;
 use position_v3::satellite_v3_refusal;
 
-// How many entries there are, the bit place at which the one at an index starts (0 where there is none), and the one where the
-// reading ended: behind the last entry of a list, and else at the body's end.
+// How many entries there are, the bit place at which the one at an index starts (0 where there is none), and the one
+// where the reading ended: behind the last entry of a list, and else at the body's end.
 pub enum Walked {
     Entries {
         count: usize,
@@ -209,7 +210,8 @@ fn sole_entry(table_id: u8, s: &[u8]) -> Walked
     }
 }
 
-// The entries of a body: their number, the place of the one at an index, and the place where the reading ended; or the body's refusal.
+// The entries of a body: their number, the place of the one at an index, and the place where the reading ended; or the
+// body's refusal.
 pub fn walk_body(table_id: u8, s: &[u8], index: usize) -> Walked
     ensures { λ r. ⌜ r ≡ seek (now (s .entry)) index walked.Entries walked.Refused (bodyStarts «table_id» (now (s .entry))) ⌝ }
     ensures { λ r. ⌜ Sure (now (s .entry)) (headEnd «table_id» (now (s .entry))) r ⌝ }

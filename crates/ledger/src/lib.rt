@@ -1,5 +1,6 @@
-// The ledger's writer and reader and the plain body, for C. The call that fills a buffer returns 0 or the refusal's number; the further
-// calls take the same bytes and the buffer's length, write nothing, and give the answer's other numbers, 0 where there is none.
+// The ledger's writer and reader and the plain body, for C. The call that fills a buffer returns 0 or the refusal's
+// number; the further calls take the same bytes and the buffer's length, write nothing, and give the answer's other
+// numbers, 0 where there is none.
 ghost use mathlib.Core.Path.{_≡_};
 ghost use lib.ListN.{length};
 ghost use Rattle.format.specs.Calls.{numberOf, needOf, haveOf, tableIdOf, lengthOf, writeAnswer, writeLeft, readAnswer, readLeft};

@@ -54,7 +54,8 @@ fn read_entry(table_id: u8, ledger: &[u8], place: usize, out: &mut [u8]) -> Step
     read_position3(ledger, place, out, 0)
 }
 
-// So many entries from a place on, up to the first that is refused. Each is laid in the part of the buffer that starts where the last one ended.
+// So many entries from a place on, up to the first that is refused. Each is laid in the part of the buffer that starts
+// where the last one ended.
 fn read_entries(
     table_id: u8,
     ledger: &[u8],

@@ -1,4 +1,5 @@
--- The ledger of a body, written into a buffer that has room for every ledger: its plain body is the body's, and its refusal too.
+-- The ledger of a body, written into a buffer that has room for every ledger: its plain body is the body's, and its
+-- refusal too.
 -- Assumes nothing.
 use Prim.Native.Nat.{ℕ, _<_, _≤_}
 use mathlib.Core.Path.{_≡_, refl, sym, ap, ap₂, _∙_}

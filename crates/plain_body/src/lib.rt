@@ -1,4 +1,5 @@
-// The plain body of a body under its table id. The way goes through the body's ledger, in a buffer that has room for every ledger.
+// The plain body of a body under its table id. The way goes through the body's ledger, in a buffer that has room for
+// every ledger.
 ghost use mathlib.Core.Path.{_≡_};
 ghost use lib.ListN.{length};
 ghost use Rattle.plain_body.specs.Plain.{plainAnswer, plainLeft, plainMeasure, answerRefusal};
@@ -45,7 +46,8 @@ pub fn plain_measure(table_id: u8, body: &[u8]) -> Measure
     ledger_measure(&ledger[..size])
 }
 
-// The plain body of a body, stored from the buffer's start on where there is room for it; after a refusal the buffer is as it was.
+// The plain body of a body, stored from the buffer's start on where there is room for it; after a refusal the buffer is
+// as it was.
 pub fn plain_body(table_id: u8, body: &[u8], out: &mut [u8]) -> Answer
     ensures { λ r. ⌜ (r ≡ plainAnswer «table_id» (now (body .entry)) (length (now (out .entry)))) × (now (out .exit) ≡ plainLeft «table_id» (now (body .entry)) (now (out .entry))) ⌝ }
 {

@@ -87,7 +87,8 @@ module _ (b : List ℕ) (p : ℕ) where
   unfolding frontAt
   reserved-answer l h = reserved-short (λ m t u a c s. s) l h .stop 0 end (λ ts q. Read (frontBy ts) q) Refused
 
-  -- behind three fields that were read, the answer for the flags makes the front's. i, z, m: their numbers; j, k, l: the places behind them
+  -- behind three fields that were read, the answer for the flags makes the front's. i, z, m: their numbers; j, k, l:
+  -- the places behind them
   module _ {r : FlagsAnswer} {x y w : Bits} {i j z k m l : ℕ} (e : x ≡ readAt b p 24) (g : x ≡ bits.Value i j) (e′ : y ≡ readAt b j 3) (g′ : y ≡ bits.Value z k)
       (e″ : w ≡ readAt b k 1) (g″ : w ≡ bits.Value m l) (h : r ≡ flagsAt b l) where
     behind : made i z m r ≡ frontAt b p

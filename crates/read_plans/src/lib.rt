@@ -17,7 +17,8 @@ use runs::Step;
 use runs::copy_bytes;
 use runs::marks;
 
-// Stores bytes at a bit place where there is room for them, and else leaves the buffer as it is; at a byte place they are copied.
+// Stores bytes at a bit place where there is room for them, and else leaves the buffer as it is; at a byte place they
+// are copied.
 fn lay_bytes(bytes: &[u8], out: &mut [u8], at: usize)
     requires { ⌜ at + 8 * length (now bytes) ≤ 600000 ⌝ }
     ensures { λ _. ⌜ bitsOf (now (out .exit)) ≡ stored (bitsOf (now (out .entry))) at (bitsOf (now (bytes .entry))) ⌝ }

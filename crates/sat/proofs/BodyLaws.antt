@@ -1,5 +1,6 @@
--- The whole body beside the other calls: its lists have as many entries as `entry_count` tells and lie within the body's bytes,
--- and it is refused exactly when the number of entries is, and alike. Stated of what the calls' contracts are equal to.
+-- The whole body beside the other calls: its lists have as many entries as `entry_count` tells and lie within the
+-- body's bytes, and it is refused exactly when the number of entries is, and alike. Stated of what the calls' contracts
+-- are equal to.
 -- Assumes nothing.
 use Prim.Native.Nat.{ℕ, zero, suc, _+_, _*_, _-_, _≤_}
 use mathlib.Core.Path.{_≡_, refl, sym, ap, _∙_}

@@ -1,4 +1,5 @@
--- A whole body as the Rust's call gives it: the description's fields by name, and the lists of entries as parts of the body's bytes.
+-- A whole body as the Rust's call gives it: the description's fields by name, and the lists of entries as parts of the
+-- body's bytes.
 -- Assumes nothing: these are definitions.
 use Prim.Native.Nat.{ℕ, zero, suc, _-_, _/_}
 use mathlib.Core.List.{List}
@@ -15,7 +16,8 @@ use Rattle.sat.specs.declared.SatBody.the-variants.{PositionV2, CellFrag
 use Rattle.sat.specs.declared.SatBodyAnswer.{SatBodyAnswer}
 use Rattle.sat.specs.declared.SatBodyAnswer.the-variants.{Body, Refused}
 
--- the part of n entries from the bit place p to e, where the reading ended: nothing of what is left over, and no byte where there is no entry
+-- the part of n entries from the bit place p to e, where the reading ended: nothing of what is left over, and no byte
+-- where there is no entry
 abbrev pub listPart : ℕ → ℕ → ℕ → Part
 listPart p e n = record { start = p / 8; length = (e - p) / 8; count = n }
 

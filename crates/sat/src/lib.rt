@@ -1,5 +1,5 @@
-// What a caller gets of a body under its table id: the whole body by the Rust's call, its lists as parts of the bytes; and one by one
-// the number of entries, the header under id 4, and the entry at an index.
+// What a caller gets of a body under its table id: the whole body by the Rust's call, its lists as parts of the bytes;
+// and one by one the number of entries, the header under id 4, and the entry at an index.
 ghost use mathlib.Core.Path.{_≡_};
 ghost use Prim.Native.Nat.{_%_, _≤_};
 ghost use lib.ListN.{length};

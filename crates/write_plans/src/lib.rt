@@ -32,7 +32,8 @@ fn lesser(a: usize, b: usize) -> usize
     b
 }
 
-// m bits of a body as bytes, the last one filled up with zeros, where there is room for all of them; whole bytes are copied.
+// m bits of a body as bytes, the last one filled up with zeros, where there is room for all of them; whole bytes are
+// copied.
 fn write_bits(body: &[u8], at: usize, m: usize, out: &mut [u8], place: usize)
     requires { ⌜ (length (now body) ≤ 4096) × (at + m ≤ 8 * length (now body)) × (place ≤ 40000) ⌝ }
     ensures { λ _. ⌜ now (out .exit) ≡ stored (now (out .entry)) place (packedBits (now (body .entry)) at m) ⌝ }

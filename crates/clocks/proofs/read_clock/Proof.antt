@@ -1,4 +1,5 @@
--- `read_clock` meets its contract, by a walk of its MIR: the reader that `new` returns stands in a local, which is lent to `skip` and to three reads. Behind each read the walk goes by the case of its answer.
+-- `read_clock` meets its contract, by a walk of its MIR: the reader that `new` returns stands in a local, which is lent
+-- to `skip` and to three reads. Behind each read the walk goes by the case of its answer.
 -- Assumes nothing.
 use mathlib.Core.Path.{_≡_, refl, sym, ap, _∙_, subst}
 use Prim.Native.Nat.{ℕ, _<_, _^_, _+_}

@@ -1,4 +1,5 @@
--- `read_entries` goes through an entry a turn, and lends it the buffer from where the last one ended. The invariant: those before i are laid.
+-- `read_entries` goes through an entry a turn, and lends it the buffer from where the last one ended. The invariant:
+-- those before i are laid.
 -- Assumes nothing.
 use Prim.Native.Nat.{_-_, _≤_}
 use native.Mathlib.Omega.{arith}

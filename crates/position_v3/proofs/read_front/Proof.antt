@@ -1,4 +1,5 @@
--- `read_front` meets its contract: the id, the reserved bits, the metadata's flag, and the other flags by what `read_flags` answers.
+-- `read_front` meets its contract: the id, the reserved bits, the metadata's flag, and the other flags by what
+-- `read_flags` answers.
 -- Assumes nothing.
 use native.Mathlib.Omega.{arith}
 use borrow.Author.Needs.{needs}
