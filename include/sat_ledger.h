@@ -1,21 +1,24 @@
-/* Satellite access table bodies, their plain bodies and their ledgers.
+/* Satellite access table bodies, their plain bodies, their ledgers, and the ids of their entries.
  *
  * sat_ledger_write files a body: it stores the ledger at the start of `out`. sat_ledger_read takes a ledger back to
- * the plain body. sat_plain_body gives a body's plain body without its ledger. All three return 0, or the number of
- * the refusal. On 0 the bytes of `out` behind the result keep their values; after a refusal all of them do.
+ * the plain body. sat_plain_body gives a body's plain body without its ledger. sat_entry_ids lists the ids of a body's
+ * entries, each different one once, in the order of their first entries; bodies of table id 2 and of ids from 5 on have
+ * none. All four return 0, or the number of the refusal. On 0 what stands in `out` behind the result keeps its value;
+ * after a refusal all of it does.
  *
  * The further calls are given the same bytes and the length of the buffer, not the buffer. They write nothing, keep
  * nothing between calls, and may be made before, after or without the call that fills the buffer:
  *   _need, _have       the two values of the refusal; 0 where nothing is refused
  *   _length, _table_id the length of the result and its table id; 0 after a refusal
+ * Lengths of `out` and of results are in its units: bytes, and for sat_entry_ids ids of 32 bits.
  *
  * Buffers that always suffice: 6 + 2 * body_len bytes for a ledger, so never more than SAT_LEDGER_MAX; for a plain body
- * body_len bytes, or SAT_BODY_MAX where it comes from a ledger. The sat_plain_body calls take some 10,000 bytes of
- * stack, the others 2,000.
+ * body_len bytes, or SAT_BODY_MAX where it comes from a ledger; SAT_ENTRY_IDS_MAX ids. The sat_plain_body calls take
+ * some 10,000 bytes of stack, the sat_entry_ids calls XXXX, the others 2,000.
  *
  * Pointers: (NULL, 0) is nothing, an empty body, an empty ledger or no buffer, and is answered as any other pointer
  * with length 0; tests/c/pages.c tries it for each pointer of each call. With a length above 0 a pointer leads to that
- * many bytes. `out` must not overlap the input: no promise holds then, though nothing stops such a call.
+ * many bytes or ids. `out` must not overlap the input: no promise holds then, though nothing stops such a call.
  *
  * Number  Refused since                                               need, have
  *  1      one field goes past the end of the body                     bits up to the field's end, bits in the body
@@ -39,7 +42,7 @@
  * 19      no room for an ephemeris entry                              248, or 344 with acceleration
  * 20      no room for the covariance                                  728
  * 21      the body has more than 4,096 bytes                          its length, 4096
- * 22      the result is longer than the buffer                        its length, the buffer's
+ * 22      the result is longer than the buffer                        its length, the buffer's, in the buffer's units
  * 23      ledger: too short, wrong length in front, a field missing,  byte place, 0
  *         or bytes over
  * 24      ledger: the version is not 1                                2, 0
@@ -47,8 +50,8 @@
  *         0 or 1, or an unused slot bit is set
  * 26      ledger: its plain body has more than 4,096 bytes            that length, 4096
  *
- * sat_ledger_write and sat_plain_body refuse by 1 to 22, the same bodies by the same numbers but for 22;
- * sat_ledger_read refuses by 22 to 26.
+ * sat_ledger_write, sat_plain_body and sat_entry_ids refuse by 1 to 22, the same bodies by the same numbers but for
+ * 22; sat_ledger_read refuses by 22 to 26.
  */
 #ifndef SAT_LEDGER_H
 #define SAT_LEDGER_H
@@ -58,6 +61,7 @@
 
 #define SAT_BODY_MAX 4096
 #define SAT_LEDGER_MAX 8198
+#define SAT_ENTRY_IDS_MAX 1024
 
 #ifdef __cplusplus
 extern "C" {
@@ -80,6 +84,11 @@ size_t sat_plain_body_need(uint8_t table_id, const uint8_t *body, size_t body_le
 size_t sat_plain_body_have(uint8_t table_id, const uint8_t *body, size_t body_len, size_t out_len);
 size_t sat_plain_body_length(uint8_t table_id, const uint8_t *body, size_t body_len, size_t out_len);
 uint8_t sat_plain_body_table_id(uint8_t table_id, const uint8_t *body, size_t body_len, size_t out_len);
+
+uint32_t sat_entry_ids(uint8_t table_id, const uint8_t *body, size_t body_len, uint32_t *out, size_t out_len);
+size_t sat_entry_ids_need(uint8_t table_id, const uint8_t *body, size_t body_len, size_t out_len);
+size_t sat_entry_ids_have(uint8_t table_id, const uint8_t *body, size_t body_len, size_t out_len);
+size_t sat_entry_ids_length(uint8_t table_id, const uint8_t *body, size_t body_len, size_t out_len);
 
 #ifdef __cplusplus
 }

@@ -1,6 +1,7 @@
-/* Buffers against unreadable pages: pages BODIES LEDGERS PLAINS, three files with one case a line. BODIES and LEDGERS
- * are the replay list with the Rust's answers, PLAINS what tests/replay/decode.py makes of the ledgers; none comes from
- * the code under test. A byte touched outside a buffer ends the program. Every tenth case and the first 60 are tried.
+/* Buffers against unreadable pages: pages BODIES LEDGERS PLAINS IDS, four files with one case a line. BODIES and
+ * LEDGERS are the replay list with the Rust's answers, PLAINS what tests/replay/decode.py makes of the ledgers, IDS what
+ * tests/replay/ids.py lists of the bodies; none comes from the code under test. A byte touched outside a buffer ends the
+ * program. Every tenth case and the first 60 are tried.
  */
 #define _DEFAULT_SOURCE
 #include <stdio.h>
@@ -40,7 +41,7 @@ static size_t unhex(const char *s, uint8_t *to)
     return n;
 }
 
-/* ---- the three calls, each with its further calls, under one form; a ledger names its table id itself */
+/* ---- the four calls, each with its further calls, under one form; a ledger names its table id itself */
 
 static uint32_t read_(uint8_t id, const uint8_t *in, size_t n, uint8_t *out, size_t room)
 {
@@ -72,8 +73,16 @@ static uint8_t read_table_id(uint8_t id, const uint8_t *in, size_t n, size_t roo
     return sat_ledger_read_table_id(in, n, room);
 }
 
+/* the ids are 32-bit units; 22, and the lengths, count these */
+static uint32_t ids(uint8_t id, const uint8_t *in, size_t n, uint8_t *out, size_t room)
+{
+    return sat_entry_ids(id, in, n, (uint32_t *)(void *)out, room);
+}
+
+/* a unit's bytes, and as many units as every result has room in; no ids have a table id */
 typedef struct {
     const char *name;
+    size_t unit, most;
     uint32_t (*fill)(uint8_t, const uint8_t *, size_t, uint8_t *, size_t);
     size_t (*need)(uint8_t, const uint8_t *, size_t, size_t);
     size_t (*have)(uint8_t, const uint8_t *, size_t, size_t);
@@ -82,20 +91,22 @@ typedef struct {
 } Call;
 
 static const Call
-    WRITE = {"sat_ledger_write", sat_ledger_write, sat_ledger_write_need, sat_ledger_write_have,
+    WRITE = {"sat_ledger_write", 1, SAT_LEDGER_MAX, sat_ledger_write, sat_ledger_write_need, sat_ledger_write_have,
              sat_ledger_write_length, sat_ledger_write_table_id},
-    READ = {"sat_ledger_read", read_, read_need, read_have, read_length, read_table_id},
-    PLAIN = {"sat_plain_body", sat_plain_body, sat_plain_body_need, sat_plain_body_have, sat_plain_body_length,
-             sat_plain_body_table_id};
+    READ = {"sat_ledger_read", 1, SAT_BODY_MAX, read_, read_need, read_have, read_length, read_table_id},
+    PLAIN = {"sat_plain_body", 1, SAT_BODY_MAX, sat_plain_body, sat_plain_body_need, sat_plain_body_have,
+             sat_plain_body_length, sat_plain_body_table_id},
+    IDS = {"sat_entry_ids", sizeof(uint32_t), SAT_ENTRY_IDS_MAX, ids, sat_entry_ids_need, sat_entry_ids_have,
+           sat_entry_ids_length, NULL};
 
-/* ---- what is wanted of a call: the result's bytes, or a refusal where bytes is NULL */
+/* ---- what is wanted of a call: the result's bytes and its size in units, or a refusal where bytes is NULL */
 
 typedef struct {
     const uint8_t *bytes;
     size_t size, number, need, have;
 } Want;
 
-static Want result(const uint8_t *bytes, size_t size)
+static Want result(const void *bytes, size_t size)
 {
     return (Want){bytes, size, 0, 0, 0};
 }
@@ -110,16 +121,17 @@ static void numbers(const Call *f, uint8_t id, const uint8_t *in, size_t n, size
     check(f->need(id, in, n, room) == w.need, "need");
     check(f->have(id, in, n, room) == w.have, "have");
     check(f->length(id, in, n, room) == (w.bytes ? w.size : 0), "length");
-    check(f->table_id(id, in, n, room) == (w.bytes ? id : 0), "table id");
+    if (f->table_id != NULL)
+        check(f->table_id(id, in, n, room) == (w.bytes ? id : 0), "table id");
 }
 
 static uint8_t *in_area, *out_area;
 
-/* n bytes of input and room bytes of output, at the areas' ends or starts */
+/* n bytes of input and room units of output, at the areas' ends or starts */
 static void one(const Call *f, uint8_t id, const uint8_t *in, size_t n, size_t room, int at_end, Want w)
 {
     uint8_t *src = at_end ? in_area + SPAN - n : in_area;
-    uint8_t *out = at_end ? out_area + SPAN - room : out_area;
+    uint8_t *out = at_end ? out_area + SPAN - f->unit * room : out_area;
     about = f->name;
     memcpy(src, in, n);
     memset(out_area, 0xa5, SPAN);
@@ -130,14 +142,14 @@ static void one(const Call *f, uint8_t id, const uint8_t *in, size_t n, size_t r
     check(memcmp(src, in, n) == 0, "input changed");
     size_t from = (size_t)(out - out_area);
     for (size_t i = 0; i < SPAN; i++)
-        if (out_area[i] != (w.bytes && i >= from && i - from < w.size ? w.bytes[i - from] : 0xa5))
+        if (out_area[i] != (w.bytes && i >= from && i - from < f->unit * w.size ? w.bytes[i - from] : 0xa5))
             check(0, "bytes left");
     checks++;
 }
 
 static void rooms(const Call *f, uint8_t id, const uint8_t *in, size_t n, Want w)
 {
-    size_t tried[] = {0, w.size > 0 ? w.size - 1 : 0, w.size, w.size + 1, SAT_LEDGER_MAX};
+    size_t tried[] = {0, w.size > 0 ? w.size - 1 : 0, w.size, w.size + 1, f->most};
     for (int at_end = 0; at_end < 2; at_end++)
         for (size_t i = 0; i < sizeof tried / sizeof *tried; i++)
             one(f, id, in, n, tried[i], at_end, w);
@@ -157,17 +169,18 @@ static void nothing(const Call *f, uint8_t id, const uint8_t *in, size_t n, Want
         check(f->fill(id, src, n, out_area + SPAN, 0) == short_of.number, "number, no room");
         check(f->fill(id, src, n, NULL, 0) == short_of.number, "number, NULL for the buffer");
         numbers(f, id, src, n, 0, short_of);
-        check(f->fill(id, src, n, out_area, SPAN) == w.number, "number, NULL for the input");
-        numbers(f, id, src, n, SPAN, w);
+        check(f->fill(id, src, n, out_area, SPAN / f->unit) == w.number, "number, NULL for the input");
+        numbers(f, id, src, n, SPAN / f->unit, w);
         if (w.bytes != NULL)
-            check(memcmp(out_area, w.bytes, w.size) == 0, "bytes, NULL for the input");
+            check(memcmp(out_area, w.bytes, f->unit * w.size) == 0, "bytes, NULL for the input");
     }
 }
 
 static void nothings(void)
 {
     static const uint8_t empty0[] = {0, 4, 1, 0, 0, 0}, empty3[] = {0, 4, 1, 3, 0, 0}, raw5[] = {0, 2, 1, 5};
-    static const uint8_t seven[] = {7};
+    static const uint8_t seven[] = {7}, satellite7[] = {0, 0, 7, 0, 1, 0x20, 0x80};
+    static const uint32_t id7[] = {7};
     nothing(&WRITE, 0, NULL, 0, result(empty0, 6));
     nothing(&WRITE, 2, NULL, 0, refusal(2, 1, 0));
     nothing(&WRITE, 3, NULL, 0, result(empty3, 6));
@@ -177,9 +190,16 @@ static void nothings(void)
     nothing(&PLAIN, 2, NULL, 0, refusal(2, 1, 0));
     nothing(&PLAIN, 5, NULL, 0, result(seven, 0));
     nothing(&READ, 0, NULL, 0, refusal(23, 0, 0));
+    nothing(&IDS, 0, NULL, 0, result(id7, 0));
+    nothing(&IDS, 2, NULL, 0, refusal(2, 1, 0));
+    nothing(&IDS, 4, NULL, 0, refusal(2, 1, 0));
+    nothing(&IDS, 5, NULL, 0, result(id7, 0));
     nothing(&WRITE, 1, seven, 1, result((const uint8_t[]){0, 4, 1, 1, 0, 0}, 6));
     nothing(&PLAIN, 9, seven, 1, result(seven, 1));
     nothing(&PLAIN, 4, seven, 1, refusal(15, 64, 8));
+    nothing(&IDS, 0, satellite7, 7, result(id7, 1));
+    nothing(&IDS, 0, satellite7, 6, refusal(3, 24, 16));
+    nothing(&IDS, 9, seven, 1, result(id7, 0));
     nothing(&READ, 0, empty0, 6, result(seven, 0));
     nothing(&READ, 5, raw5, 4, result(seven, 0));
 }
@@ -264,15 +284,39 @@ static void long_ledgers(void)
 
 /* ---- the replay list */
 
-/* a body with the line of its ledger and that of its plain body */
-static void stored(const char *body_line, const char *ledger_line, const char *plain_line)
+static Want refusal_of(const char *text)
+{
+    Want w = {NULL, 0, 0, 0, 0};
+    return sscanf(text, "R %zu %zu %zu", &w.number, &w.need, &w.have) == 3 ? w : refusal(0, 0, 0);
+}
+
+/* a body with the line of its ids: the word, and then each in decimal */
+static void listed(uint8_t id, const uint8_t *body, size_t n, const char *ids_line)
+{
+    static uint32_t given[SAT_ENTRY_IDS_MAX];
+    Want w = refusal_of(ids_line);
+    if (w.number == 0) {
+        size_t count = 0;
+        int more = 0;
+        check(strncmp(ids_line, "ids", 3) == 0, "the fourth file's line");
+        for (const char *p = ids_line + 3; sscanf(p, "%u%n", &given[count], &more) == 1; p += more)
+            count++;
+        w = result(given, count);
+    }
+    rooms(&IDS, id, body, n, w);
+}
+
+/* a body with the line of its ledger, that of its plain body and that of its ids */
+static void stored(const char *body_line, const char *ledger_line, const char *plain_line, const char *ids_line)
 {
     static uint8_t body[10000], ledger[10000], plain[10000];
-    size_t n = unhex(body_line, body), number, need, have;
+    size_t n = unhex(body_line, body);
     uint8_t id = body[0];
-    if (sscanf(ledger_line, "R %zu %zu %zu", &number, &need, &have) == 3) {
-        rooms(&WRITE, id, body + 1, n - 1, refusal(number, need, have));
-        rooms(&PLAIN, id, body + 1, n - 1, refusal(number, need, have));
+    listed(id, body + 1, n - 1, ids_line);
+    Want w = refusal_of(ledger_line);
+    if (w.number != 0) {
+        rooms(&WRITE, id, body + 1, n - 1, w);
+        rooms(&PLAIN, id, body + 1, n - 1, w);
         return;
     }
     unsigned named;
@@ -291,10 +335,10 @@ static void stored(const char *body_line, const char *ledger_line, const char *p
 
 int main(int argc, char **argv)
 {
-    static char text[3][20000];
-    FILE *file[3];
-    for (int i = 0; i < 3; i++)
-        if (argc != 4 || (file[i] = fopen(argv[i + 1], "r")) == NULL)
+    static char text[4][20000];
+    FILE *file[4];
+    for (int i = 0; i < 4; i++)
+        if (argc != 5 || (file[i] = fopen(argv[i + 1], "r")) == NULL)
             return 2;
     in_area = fenced();
     out_area = fenced();
@@ -303,9 +347,10 @@ int main(int argc, char **argv)
     long_ledgers();
     line = 0;
     while (fgets(text[0], sizeof text[0], file[0])) {
-        check(fgets(text[1], sizeof text[1], file[1]) && fgets(text[2], sizeof text[2], file[2]), "a line is missing");
+        for (int i = 1; i < 4; i++)
+            check(fgets(text[i], sizeof text[i], file[i]) != NULL, "a line is missing");
         if (++line <= 60 || line % 10 == 0)
-            stored(text[0], text[1], text[2]);
+            stored(text[0], text[1], text[2], text[3]);
     }
     printf("%lu checks\n", checks);
     return line > 3000 ? 0 : 1;

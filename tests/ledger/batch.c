@@ -4,6 +4,7 @@
  * batch back    the same, and the ledger is read back: the answer is the plain body, '-' for an empty one
  * batch plain   a line is a table id and a body; the answer is the plain body, '-' for an empty one, made of the body itself
  * batch read    a line is a ledger; the answer is the table id (two digits) and the plain body
+ * batch ids [N] a line is a table id and a body; the answer is 'ids' and the ids of the entries, in a buffer of N (1,024)
  *
  * A refusal is 'R number need have'; an empty line gives 'no input'. Exit 2 on bad hexadecimal or a bad argument. */
 #include "sat_ledger.h"
@@ -104,11 +105,36 @@ static void read_case(size_t n) {
     show(front, again, sat_ledger_read_length(in, n, sizeof again));
 }
 
+/* What stands behind the result, and all of it after a refusal, keeps its value. */
+static void ids_case(size_t n, size_t room) {
+    static uint32_t ids[SAT_ENTRY_IDS_MAX];
+    uint8_t id = in[0];
+    const uint8_t *body = in + 1;
+    memset(ids, 0xa5, sizeof ids);
+    uint32_t r = sat_entry_ids(id, body, n - 1, ids, room);
+    size_t count = sat_entry_ids_length(id, body, n - 1, room);
+    for (size_t i = count; i < SAT_ENTRY_IDS_MAX; i++)
+        if (ids[i] != 0xa5a5a5a5) {
+            puts("written behind the ids");
+            return;
+        }
+    if (r != 0) {
+        refusal(r, sat_entry_ids_need(id, body, n - 1, room), sat_entry_ids_have(id, body, n - 1, room));
+        return;
+    }
+    fputs("ids", stdout);
+    for (size_t i = 0; i < count; i++)
+        printf(" %lu", (unsigned long)ids[i]);
+    putchar('\n');
+}
+
 int main(int argc, char **argv) {
-    const char *what = argc == 2 ? argv[1] : "";
+    const char *what = argc >= 2 ? argv[1] : "";
     int is_read = strcmp(what, "read") == 0, back = strcmp(what, "back") == 0, plain = strcmp(what, "plain") == 0;
-    if (!is_read && !back && !plain && strcmp(what, "write") != 0) {
-        fputs("use: batch write|back|plain|read < cases\n", stderr);
+    int ids = strcmp(what, "ids") == 0;
+    size_t room = argc == 3 ? strtoul(argv[2], NULL, 10) : SAT_ENTRY_IDS_MAX;
+    if ((!is_read && !back && !plain && !ids && strcmp(what, "write") != 0) || argc > 2 + ids || room > SAT_ENTRY_IDS_MAX) {
+        fputs("use: batch write|back|plain|read|ids [N] < cases\n", stderr);
         return 2;
     }
     while (fgets(line, sizeof line, stdin) != NULL) {
@@ -116,6 +142,7 @@ int main(int argc, char **argv) {
         if (is_read) read_case(n);
         else if (n == 0) puts("no input");
         else if (plain) plain_case(n);
+        else if (ids) ids_case(n, room);
         else write_case(n, back);
     }
     return fflush(stdout) == 0 ? 0 : 1;

@@ -1,21 +1,25 @@
 -- The ids of a whole body: by its layout, and as a caller gets them.
 -- Assumes nothing.
 use mathlib.Core.Path.{_≡_, refl, sym, ap, _∙_}
+use mathlib.Core.Bool.{Bool, true, false, cond}
 use mathlib.Core.List.{List, []}
 use Prim.Native.Nat.{ℕ, zero, suc, _*_, _-_, _≤_, _<_}
 use native.Mathlib.Omega.{arith}
 use lib.Dec.{leb}
 use lib.ListN.{length, take, drop}
-use borrow.Author.Tests.{le-leb, lt-leb}
+use borrow.Author.Tests.{le-leb, lt-leb, leb-true}
 use Rattle.format.specs.Digits.{bitsOf, splice}
 use Rattle.format.specs.Refusals.{refuse}
 use Rattle.format.specs.Syntax.{Field, Parse, got, refused, andThen}
 use Rattle.format.specs.Tables.{association}
 use Rattle.format.specs.Body.{readBody}
 use Rattle.format.specs.Whole.{Layout, sole, many, opaque, layout, Table, one, list, asIs, entriesOf, entries, readAs, bodyRead, bodyStarts}
+use Rattle.format.specs.Calls.{answer, left}
 use Rattle.format.specs.At.{endOf, seek}
-use Rattle.format.specs.Added.{entryIds}
+use Rattle.format.specs.Added.{entryIds, firstOfEach}
 use Rattle.format.specs.declared.Refusal.{Refusal}
+use Rattle.format.specs.declared.Answer.{Answer}
+use Rattle.format.specs.declared.Answer.the-variants as answers
 use Rattle.format.specs.declared.EntryEnd.the-variants.{At}
 use Rattle.format.proofs.ParseLaws.{cond-got, then-got}
 use Rattle.format.proofs.ReadLaws.{rest-at}
@@ -23,10 +27,7 @@ use Rattle.format.proofs.AgreeLaws.{Agree, counted, refuses, starts-agree}
 use Rattle.entries.specs.Entries.{IsList, entryIn, leastIn, headIn, entrySyntax, leastBits, headSyntax}
 use Rattle.entries.specs.declared.Walked.the-variants as walked
 use Rattle.entries.proofs.Bodies.{Headed, headed}
-use Rattle.entry_ids.specs.Ids.{joinAll, gather, idsOf, GatheredIn, Gathered, IdsIn, IdsOf}
-use Rattle.entry_ids.specs.declared.IdsAnswer.{IdsAnswer}
-use Rattle.entry_ids.specs.declared.IdsAnswer.the-variants as ids
-use Rattle.entry_ids.proofs.Lists.{each-once}
+use Rattle.entry_ids.specs.Ids.{idsOf, idsAnswer, idsLeft, gather, Front, Gathered, fit}
 
 module _ (id : ℕ) (b : List ℕ) where
   abbrev n : ℕ
@@ -44,9 +45,9 @@ module _ (id : ℕ) (b : List ℕ) where
       go (refused u v w) (refused u′ v′ w′) refuses z = let y : g ≡ refuse u v w = cc in rw y
 
   pub gathered-no : {g : Refusal} (i : ℕ) (kept : List ℕ) → walked.Refused g ≡ seek b i walked.Entries walked.Refused (bodyStarts id b)
-      → Gathered (idsOf id (bodyRead id b)) (ids.Refused g) kept
-  unfolding idsOf
-  gathered-no i kept z = rw (refused-alike i z) (record { to = refl })
+      → Gathered id (idsOf id b) (answers.Refused g) kept
+  unfolding idsOf answer
+  gathered-no i kept z = rw (refused-alike i z) (record { is = refl; front = tt })
 
   -- it is accepted as the reading is
   accepted-alike : {c p e : ℕ} (i : ℕ) → walked.Entries c p e ≡ seek b i walked.Entries walked.Refused (bodyStarts id b) → (t : Table) × (r : List ℕ) × (bodyRead id b ≡ got t r)
@@ -76,19 +77,20 @@ module _ (id : ℕ) (b : List ℕ) where
       go (suc (suc (suc (suc (suc k))))) h e = let z : asIs b ≡ t = cc in ap entriesOf (sym z)
 
   pub gathered-none : {c p e : ℕ} (i : ℕ) (kept : List ℕ) → (id ≤ 4 → id ≡ 2) → walked.Entries c p e ≡ seek b i walked.Entries walked.Refused (bodyStarts id b)
-      → Gathered (idsOf id (bodyRead id b)) (ids.Ids 0) kept
-  unfolding idsOf entryIds joinAll
+      → Gathered id (idsOf id b) (answers.Done id 0) kept
+  unfolding idsOf entryIds firstOfEach answer
   gathered-none i kept h z =
       let a = accepted-alike i z in
-      rw (a .2, no-entries h (a .2)) (record { to = (refl, omega arith, refl) })
+      rw (a .2, no-entries h (a .2)) (record { is = rw (le-leb 0 (length kept) (omega arith)); front = (omega arith, refl) })
 
   -- ---- a list
 
   abbrev listed : List Field → ℕ → List ℕ → Parse Table
   listed hs turns bs = andThen (entries n (leastBits id) (entrySyntax id) turns bs) (λ es over. got (list hs es) [])
 
-  gather-listed : (hs : List Field) (p : Parse (List (List Field))) → idsOf id (andThen p (λ es over. got (list hs es) [])) ≡ gather id [] p
-  unfolding idsOf gather entryIds entriesOf
+  gather-listed : (hs : List Field) (p : Parse (List (List Field)))
+      → andThen (andThen p (λ es over. got (list hs es) [])) (λ t rest. got (firstOfEach (entryIds id t)) []) ≡ gather id [] p
+  unfolding gather entryIds entriesOf
   gather-listed hs (got es rest) = refl
   gather-listed hs (refused x y z) = refl
 
@@ -105,54 +107,79 @@ listed-from : (id : ℕ) (b : List ℕ) (q : ℕ) → IsList (layout id) → (h 
 unfolding readAs
 listed-from id b q l h = ap (λ (y : Layout). readAs y b) (layout-list id l) ∙ rw (h .reads, rest-at b q)
 
-pub gathered-list : {r : IdsAnswer} {kept : List ℕ} (id : ℕ) (b : List ℕ) (q : ℕ) → length b ≤ 4096 → IsList (layout id) → endOf b (headSyntax id) 0 ≡ At q
-    → Gathered (gather id [] (entries (8 * length b) (leastBits id) (entrySyntax id) (8 * length b - q) (drop q (bitsOf b)))) r kept
-    → Gathered (idsOf id (bodyRead id b)) r kept
-unfolding bodyRead
+pub gathered-list : {r : Answer} {kept : List ℕ} (id : ℕ) (b : List ℕ) (q : ℕ) → length b ≤ 4096 → IsList (layout id) → endOf b (headSyntax id) 0 ≡ At q
+    → Gathered id (gather id [] (entries (8 * length b) (leastBits id) (entrySyntax id) (8 * length b - q) (drop q (bitsOf b)))) r kept
+    → Gathered id (idsOf id b) r kept
+unfolding idsOf bodyRead
 gathered-list id b q h l e g =
     let o = headed b id q l e in
     rw (le-leb (length b) 4096 h, listed-from id b q l o, gather-listed id b (o .hs)) g
 
 -- ---- what a caller gets, of the ids that were gathered
 
-module _ {r : IdsAnswer} {kept : List ℕ} (id : ℕ) (b out : List ℕ) (g : Gathered (idsOf id (bodyRead id b)) r kept) where
-  pub given-no : {f : Refusal} → r ≡ ids.Refused f → IdsOf id b out r out
-  unfolding idsOf
-  given-no {f} e = record { to = go (bodyRead id b) (g .to) }
-    where
-      go : (p : Parse Table) → GatheredIn (idsOf id p) r kept → IdsIn id p out r out
-      go (got t rest) h = let o : _≡_ {A = ℕ} 0 1 = (let z = h .0 in cc) in absurd (omega arith)
-      go (refused x y z) h = (h, refl)
+module _ {found : Answer} (room : ℕ) where
+  pub fit-no : {f : Refusal} → found ≡ answers.Refused f → found ≡ fit room found
+  unfolding fit
+  fit-no e = rw e
 
-  pub given-few : {count : ℕ} → r ≡ ids.Ids count → count ≤ length kept
-  unfolding idsOf
-  given-few {count} e = go (bodyRead id b) (g .to)
-    where
-      go : (p : Parse Table) → GatheredIn (idsOf id p) r kept → count ≤ length kept
-      go (got t rest) h =
-          let c : length (joinAll [] (entryIds id t)) ≡ count = (let z = h .0 in cc) in
-          omega (arith, h .1, c)
-      go (refused x y z) h = let o : _≡_ {A = ℕ} 0 1 = cc in absurd (omega arith)
+  pub fit-short : {t n : ℕ} → found ≡ answers.Done t n → room < n → answers.Refused (refuse 22 n room) ≡ fit room found
+  unfolding fit
+  fit-short {n = n} e h = rw (e, lt-leb n room h)
 
-  pub given-short : {count : ℕ} → r ≡ ids.Ids count → length out < count → IdsOf id b out (ids.Refused (refuse 22 count (length out))) out
-  unfolding idsOf
-  given-short {count} e m = record { to = go (bodyRead id b) (g .to) }
-    where
-      go : (p : Parse Table) → GatheredIn (idsOf id p) r kept → IdsIn id p out (ids.Refused (refuse 22 count (length out))) out
-      go (got t rest) h =
-          let l : List ℕ = joinAll [] (entryIds id t) in
-          let c : length l ≡ count = (let z = h .0 in cc) in
-          (l, each-once (entryIds id t), rw (c, lt-leb count (length out) m), rw (c, lt-leb count (length out) m))
-      go (refused x y z) h = let o : _≡_ {A = ℕ} 0 1 = cc in absurd (omega arith)
+  pub fit-enough : {t n : ℕ} → found ≡ answers.Done t n → n ≤ room → answers.Done t n ≡ fit room found
+  unfolding fit
+  fit-enough {n = n} e h = rw (e, le-leb n room h)
 
-  pub given-all : {count : ℕ} {out′ : List ℕ} → r ≡ ids.Ids count → count ≤ length out → out′ ≡ splice out 0 (take count kept) → IdsOf id b out (ids.Ids count) out′
-  unfolding idsOf
-  given-all {count} {out′} e m s = record { to = go (bodyRead id b) (g .to) }
-    where
-      go : (p : Parse Table) → GatheredIn (idsOf id p) r kept → IdsIn id p out (ids.Ids count) out′
-      go (got t rest) h =
-          let l : List ℕ = joinAll [] (entryIds id t) in
-          let c : length l ≡ count = (let z = h .0 in cc) in
-          let k : take count kept ≡ l = ap (λ (n : ℕ). take n kept) (sym c) ∙ h .2 in
-          (l, each-once (entryIds id t), rw (c, le-leb count (length out) m), rw (c, le-leb count (length out) m) (s ∙ ap (splice out 0) k))
-      go (refused x y z) h = let o : _≡_ {A = ℕ} 0 1 = cc in absurd (omega arith)
+-- the answer for the caller's buffer
+pub fit-answer : {r a : Answer} {kept : List ℕ} (id : ℕ) (b : List ℕ) (room : ℕ) → Gathered id (idsOf id b) r kept → a ≡ fit room r → a ≡ idsAnswer id b room
+unfolding idsAnswer answer fit
+fit-answer {r} {a} {kept} id b room g e = e ∙ ap (fit room) (g .is) ∙ go (idsOf id b) (g .front)
+  where
+    go : (p : Parse (List ℕ)) → Front p kept → fit room (answer id (length kept) p) ≡ answer id room p
+    go (got l rest) f = rw (le-leb (length l) (length kept) (f .0))
+    go (refused x y z) f = refl
+
+-- refused: the buffer is as it was
+left-refused : {f : Refusal} (id : ℕ) (out : List ℕ) (p : Parse (List ℕ)) → answer id (length out) p ≡ answers.Refused f → out ≡ left out p
+unfolding answer left
+left-refused id out (refused x y z) e = refl
+left-refused {f} id out (got l rest) e = go (leb (length l) (length out)) _ e
+  where
+    go : (t : Bool) (g : Refusal) → cond t (answers.Done id (length l)) (answers.Refused g) ≡ answers.Refused f → out ≡ cond t (splice out 0 l) out
+    go true g e = let o : _≡_ {A = ℕ} 0 1 = cc in absurd (omega arith)
+    go false g e = refl
+
+pub left-no : {a : Answer} {f : Refusal} (id : ℕ) (b out : List ℕ) → a ≡ idsAnswer id b (length out) → a ≡ answers.Refused f → out ≡ idsLeft id b out
+unfolding idsAnswer idsLeft
+left-no id b out e q = left-refused id out (idsOf id b) (sym e ∙ q)
+
+-- accepted: there is room, and what was gathered is the result
+pub record Held (out kept : List ℕ) (p : Parse (List ℕ)) (count : ℕ) : Type 0 where
+  pub within : count ≤ length kept
+  pub room : count ≤ length out
+  pub leaves : splice out 0 (take count kept) ≡ left out p
+
+held : {t count : ℕ} {kept : List ℕ} (id : ℕ) (out : List ℕ) (p : Parse (List ℕ)) → Front p kept → answer id (length out) p ≡ answers.Done t count → Held out kept p count
+unfolding answer left
+held id out (refused x y z) f e = let o : _≡_ {A = ℕ} 0 1 = cc in absurd (omega arith)
+held {t} {count} {kept} id out (got l rest) f e = go (leb (length l) (length out)) refl _ e
+  where
+    go : (u : Bool) → leb (length l) (length out) ≡ u → (g : Refusal) → cond u (answers.Done id (length l)) (answers.Refused g) ≡ answers.Done t count → Held out kept (got l rest) count
+    go false q g e = let o : _≡_ {A = ℕ} 0 1 = cc in absurd (omega arith)
+    go true q g e =
+        let c : length l ≡ count = cc in
+        let h = leb-true (length l) (length out) q in
+        record {
+          within = omega (arith, c, f .0);
+          room = omega (arith, c, h);
+          leaves = rw (← c, f .1, le-leb (length l) (length out) h);
+        }
+
+pub given-held : {a : Answer} {t count : ℕ} {kept : List ℕ} (id : ℕ) (b out : List ℕ) → a ≡ idsAnswer id b (length out) → a ≡ answers.Done t count → Front (idsOf id b) kept
+    → Held out kept (idsOf id b) count
+unfolding idsAnswer
+given-held id b out e q f = held id out (idsOf id b) f (sym e ∙ q)
+
+pub given-left : {kept out′ : List ℕ} {count : ℕ} (id : ℕ) (b out : List ℕ) → Held out kept (idsOf id b) count → out′ ≡ splice out 0 (take count kept) → out′ ≡ idsLeft id b out
+unfolding idsLeft
+given-left id b out h s = s ∙ h .leaves

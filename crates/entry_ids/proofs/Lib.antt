@@ -1,3 +1,4 @@
 pub mod Lists
 pub mod Walks
 pub mod Bodies
+pub mod Calls

@@ -1,10 +1,9 @@
--- Numbers put behind a list unless they are there: each different one is there once.
+-- The test for an id, one more id behind those that are there, and copies in a buffer.
 -- Assumes nothing.
-use Prim.Native.Nat.{ℕ, suc, _+_, _≤_, _<_}
+use Prim.Native.Nat.{ℕ, suc, _+_, _<_, _≤_}
 use mathlib.Core.Path.{_≡_, refl, sym, ap, _∙_, subst}
-use mathlib.Core.Logic.{_⊎_, inl, inr, ⊎-elim}
 use mathlib.Core.Bool.{Bool, true, false, cond, _||_}
-use mathlib.Core.List.{List, [], _∷_, _++_, List·Memᴰ, List·Memᴰ·head, List·Memᴰ·tail, List·Memᴰ·not-nil, List·Memᴰ·cases-cons, List·Memᴰ·append-cases, List·Memᴰ·eq-of-singleton, Memᴰ·append-left, Memᴰ·append-right, Memᴰ·cast}
+use mathlib.Core.List.{List, [], _∷_, _++_, append-nil}
 use native.Mathlib.Numerals.{add-one}
 use native.Mathlib.Nat.{zero-add}
 use native.Mathlib.Omega.{arith}
@@ -13,8 +12,8 @@ use lib.ListN.{length, take, drop, getD, set, length-set}
 use lib.Seq.{take-suc, take-suc-set, length-take-le, split-at, paste, paste-suc}
 use borrow.Author.Tests.{eqb-true, eqb-false, eq-eqb, ne-eqb}
 use Rattle.format.specs.Digits.{splice}
-use Rattle.format.specs.Added.{NoneTwice, Distinct}
-use Rattle.entry_ids.specs.Ids.{isIn, join, joinAll, Joined}
+use Rattle.format.specs.Added.{without, firstOfEach}
+use Rattle.entry_ids.specs.Ids.{isIn, join, Joined}
 
 -- ---- the test
 
@@ -44,105 +43,53 @@ module _ (x : ℕ) where
       or-true true = refl
       or-true false = refl
 
-  is-in-mem : (l : List ℕ) → isIn x l ≡ true → List·Memᴰ x l
-  unfolding isIn
-  is-in-mem [] h = let o : _≡_ {A = Bool} false true = h in absurd (let z : _≡_ {A = ℕ} 0 1 = cc in omega arith)
-  is-in-mem (y ∷ l) h = go (eqb x y) refl (is-in-mem l) h
+-- ---- one more id behind others: it is put down unless it is there
+
+without-append : (x : ℕ) (l k : List ℕ) → without x (l ++ k) ≡ without x l ++ without x k
+unfolding without
+without-append x [] k = refl
+without-append x (y ∷ l) k = go (eqb x y) (without-append x l k)
+  where
+    go : (t : Bool) → without x (l ++ k) ≡ without x l ++ without x k
+        → cond t (without x (l ++ k)) (y ∷ without x (l ++ k)) ≡ cond t (without x l) (y ∷ without x l) ++ without x k
+    go true e = e
+    go false e = ap (λ (m : List ℕ). y ∷ m) e
+
+-- another is there as before
+is-in-without : (x y : ℕ) → (x ≡ y → ⊥) → (l : List ℕ) → isIn x (without y l) ≡ isIn x l
+unfolding isIn without
+is-in-without x y n [] = refl
+is-in-without x y n (z ∷ l) = go (eqb y z) refl (is-in-without x y n l)
+  where
+    go : (t : Bool) → eqb y z ≡ t → isIn x (without y l) ≡ isIn x l → isIn x (cond t (without y l) (z ∷ without y l)) ≡ (eqb x z || isIn x l)
+    go true e ih = rw (ne-eqb x z (λ q. n (q ∙ sym (eqb-true y z e)))) ih
+    go false e ih = rw ih
+
+module _ (y x : ℕ) (l : List ℕ) where
+  join-same : y ≡ x → y ∷ without y (join l x) ≡ join (y ∷ without y l) x
+  unfolding join isIn without
+  join-same e = rw (eq-eqb x y (sym e)) (go (isIn x l))
     where
-      go : (t : Bool) → eqb x y ≡ t → (isIn x l ≡ true → List·Memᴰ x l) → (t || isIn x l) ≡ true → List·Memᴰ x (y ∷ l)
-      go true e ih z = List·Memᴰ·head (eqb-true x y e)
-      go false e ih z = List·Memᴰ·tail (ih z)
+      go : (t : Bool) → y ∷ without y (cond t l (l ++ x ∷ [])) ≡ y ∷ without y l
+      go true = refl
+      go false = ap (λ (m : List ℕ). y ∷ m) (without-append y l (x ∷ []) ∙ rw (eq-eqb y x e) (append-nil (without y l)))
 
-  is-in-not : (l : List ℕ) → isIn x l ≡ false → List·Memᴰ x l → ⊥
-  unfolding isIn
-  is-in-not [] h m = List·Memᴰ·not-nil m
-  is-in-not (y ∷ l) h m = go (eqb x y) refl (is-in-not l) h
+  join-other : (y ≡ x → ⊥) → y ∷ without y (join l x) ≡ join (y ∷ without y l) x
+  unfolding join isIn without
+  join-other n = rw (ne-eqb x y (λ e. n (sym e)), is-in-without x y (λ e. n (sym e)) l) (go (isIn x l))
     where
-      go : (t : Bool) → eqb x y ≡ t → (isIn x l ≡ false → List·Memᴰ x l → ⊥) → (t || isIn x l) ≡ false → ⊥
-      go true e ih z = let o : _≡_ {A = ℕ} 0 1 = cc in omega arith
-      go false e ih z = ⊎-elim (λ q. eqb-false x y e q) (λ q. ih z q) (List·Memᴰ·cases-cons m)
+      go : (t : Bool) → y ∷ without y (cond t l (l ++ x ∷ [])) ≡ cond t (y ∷ without y l) ((y ∷ without y l) ++ x ∷ [])
+      go true = refl
+      go false = ap (λ (m : List ℕ). y ∷ m) (without-append y l (x ∷ []) ∙ rw (ne-eqb y x n))
 
--- ---- one more
-
-none-twice-last : (l : List ℕ) (x : ℕ) → NoneTwice l → (List·Memᴰ x l → ⊥) → NoneTwice (l ++ x ∷ [])
-none-twice-last [] x n h = (λ m. List·Memᴰ·not-nil m, tt)
-none-twice-last (y ∷ l) x n h =
-    (λ m. ⊎-elim (λ q. n .0 q) (λ q. h (List·Memᴰ·head (sym (List·Memᴰ·eq-of-singleton q)))) (List·Memᴰ·append-cases l m), none-twice-last l x (n .1) (λ m. h (List·Memᴰ·tail m)))
-
-module _ (l : List ℕ) (x : ℕ) where
-  join-once : NoneTwice l → NoneTwice (join l x)
-  unfolding join
-  join-once n = go (isIn x l) refl
-    where
-      go : (t : Bool) → isIn x l ≡ t → NoneTwice (cond t l (l ++ x ∷ []))
-      go true e = n
-      go false e = none-twice-last l x n (is-in-not x l e)
-
-  join-old : (y : ℕ) → List·Memᴰ y l → List·Memᴰ y (join l x)
-  unfolding join
-  join-old y m = go (isIn x l)
-    where
-      go : (t : Bool) → List·Memᴰ y (cond t l (l ++ x ∷ []))
-      go true = m
-      go false = Memᴰ·append-left (x ∷ []) m
-
-  join-new : List·Memᴰ x (join l x)
-  unfolding join
-  join-new = go (isIn x l) refl
-    where
-      go : (t : Bool) → isIn x l ≡ t → List·Memᴰ x (cond t l (l ++ x ∷ []))
-      go true e = is-in-mem x l e
-      go false e = Memᴰ·append-right l (List·Memᴰ·head refl)
-
-  join-only : (y : ℕ) → List·Memᴰ y (join l x) → (y ≡ x) ⊎ List·Memᴰ y l
-  unfolding join
-  join-only y = go (isIn x l)
-    where
-      go : (t : Bool) → List·Memᴰ y (cond t l (l ++ x ∷ [])) → (y ≡ x) ⊎ List·Memᴰ y l
-      go true m = inr m
-      go false m = ⊎-elim (λ q. inr q) (λ q. inl (List·Memᴰ·eq-of-singleton q)) (List·Memᴰ·append-cases l m)
-
--- ---- all of a list
-
-once-all : (xs l : List ℕ) → NoneTwice l → NoneTwice (joinAll l xs)
-unfolding joinAll
-once-all [] l n = n
-once-all (x ∷ xs) l n = once-all xs (join l x) (join-once l x n)
-
-module _ (y : ℕ) where
-  all-old : (xs l : List ℕ) → List·Memᴰ y l → List·Memᴰ y (joinAll l xs)
-  unfolding joinAll
-  all-old [] l m = m
-  all-old (x ∷ xs) l m = all-old xs (join l x) (join-old l x y m)
-
-  all-new : (xs l : List ℕ) → List·Memᴰ y xs → List·Memᴰ y (joinAll l xs)
-  unfolding joinAll
-  all-new [] l m = absurd (List·Memᴰ·not-nil m)
-  all-new (x ∷ xs) l m = go (all-new xs (join l x)) (List·Memᴰ·cases-cons m)
-    where
-      go : (List·Memᴰ y xs → List·Memᴰ y (joinAll (join l x) xs)) → (y ≡ x) ⊎ List·Memᴰ y xs → List·Memᴰ y (joinAll (join l x) xs)
-      go ih (inl e) = all-old xs (join l x) (Memᴰ·cast e (join-new l x))
-      go ih (inr q) = ih q
-
-  all-only : (xs l : List ℕ) → List·Memᴰ y (joinAll l xs) → List·Memᴰ y xs ⊎ List·Memᴰ y l
-  unfolding joinAll
-  all-only [] l m = inr m
-  all-only (x ∷ xs) l m = go (all-only xs (join l x) m)
-    where
-      first : (y ≡ x) ⊎ List·Memᴰ y l → List·Memᴰ y (x ∷ xs) ⊎ List·Memᴰ y l
-      first (inl e) = inl (List·Memᴰ·head e)
-      first (inr q) = inr q
-
-      go : List·Memᴰ y xs ⊎ List·Memᴰ y (join l x) → List·Memᴰ y (x ∷ xs) ⊎ List·Memᴰ y l
-      go (inl q) = inl (List·Memᴰ·tail q)
-      go (inr q) = first (join-only l x y q)
-
--- each different one once and nothing else
-pub each-once : (xs : List ℕ) → Distinct xs (joinAll [] xs)
-each-once xs = record {
-  none-twice = once-all xs [] tt;
-  same = λ y. (λ m. ⊎-elim (λ q. q) (λ q. absurd (List·Memᴰ·not-nil q)) (all-only y xs [] m), λ m. all-new y xs [] m);
-}
+pub first-last : (ids : List ℕ) (x : ℕ) → firstOfEach (ids ++ x ∷ []) ≡ join (firstOfEach ids) x
+unfolding firstOfEach join isIn without
+first-last [] x = refl
+first-last (y ∷ ids) x = ap (λ (m : List ℕ). y ∷ without y m) (first-last ids x) ∙ go (eqb y x) refl
+  where
+    go : (t : Bool) → eqb y x ≡ t → y ∷ without y (join (firstOfEach ids) x) ≡ join (y ∷ without y (firstOfEach ids)) x
+    go true e = join-same y x (firstOfEach ids) (eqb-true y x e)
+    go false e = join-other y x (firstOfEach ids) (eqb-false y x e)
 
 -- ---- in a buffer
 

@@ -1,35 +1,41 @@
--- The ids of a body's entries: which of them, in what order, and what a caller gets.
+-- The ids of a body's entries: what a caller gets, and what the parts of the call do.
 -- Assumes nothing: these are definitions.
 use Prim.Native.Nat.{ℕ, zero, suc, _+_, _≤_}
 use mathlib.Core.Path.{_≡_}
 use mathlib.Core.Bool.{Bool, false, cond, _||_}
 use mathlib.Core.List.{List, [], _∷_, _++_, map}
 use lib.Dec.{leb, eqb}
-use lib.ListN.{length, take}
-use Rattle.format.specs.Digits.{splice}
+use lib.ListN.{length, take, drop}
 use Rattle.format.specs.Refusals.{refuse}
 use Rattle.format.specs.Syntax.{Field, Parse, got, refused, andThen}
-use Rattle.format.specs.Whole.{Table, bodyRead}
+use Rattle.format.specs.Whole.{bodyRead}
+use Rattle.format.specs.Calls.{answer, left, numberOf, lengthOf, resultIn}
 use Rattle.format.specs.ByName.{the}
-use Rattle.format.specs.Added.{idName, entryIds, Distinct}
-use Rattle.entry_ids.specs.declared.IdsAnswer.{IdsAnswer}
-use Rattle.entry_ids.specs.declared.IdsAnswer.the-variants.{Ids, Refused}
+use Rattle.format.specs.Added.{idName, entryIds, firstOfEach, Distinct, InOrder}
+use Rattle.format.specs.declared.Answer.{Answer}
+use Rattle.format.specs.declared.Answer.the-variants.{Done, Refused}
 
 -- ---- what a caller gets
 
--- Of a body that is accepted: a list of its entries' ids (document 01's roll), stored at the buffer's start and counted,
--- or refusal 22 where the buffer is shorter. Of any other body: its refusal. Where it is refused, the buffer is as it was.
-abbrev pub IdsIn : ℕ → Parse Table → List ℕ → IdsAnswer → List ℕ → Type 0
-IdsIn id (got t rest) out r out′ =
-    (l : List ℕ) × Distinct (entryIds id t) l × (r ≡ cond (leb (length l) (length out)) (Ids (length l)) (Refused (refuse 22 (length l) (length out))))
-    × (out′ ≡ cond (leb (length l) (length out)) (splice out 0 l) out)
-IdsIn id (refused number needed had) out r out′ = (r ≡ Refused (refuse number needed had)) × (out′ ≡ out)
+-- document 01's roll, in the order of S-10: of the ids of a body's entries each where it first stands, or the body's refusal
+unfoldable pub idsOf : ℕ → List ℕ → Parse (List ℕ)
+idsOf id b = andThen (bodyRead id b) (λ t rest. got (firstOfEach (entryIds id t)) [])
 
--- a table id, a body, the buffer before; the answer, and the buffer afterwards
-pub record IdsOf (id : ℕ) (b out : List ℕ) (r : IdsAnswer) (out′ : List ℕ) : Type 0 where
-  pub to : IdsIn id (bodyRead id b) out r out′
+-- a table id, a body and the buffer, or how many ids it holds
+unfoldable pub idsAnswer : ℕ → List ℕ → ℕ → Answer
+idsAnswer id b room = answer id room (idsOf id b)
 
--- ---- the different ones, in the order in which they first come
+unfoldable pub idsLeft : ℕ → List ℕ → List ℕ → List ℕ
+idsLeft id b out = left out (idsOf id b)
+
+-- what the papers promise of an answer and the buffer afterwards, given the ids of all entries and the buffer before
+pub record Listed (ids out : List ℕ) (a : Answer) (out′ : List ℕ) : Type 0 where
+  pub accepts : numberOf a ≡ 0
+  pub distinct : Distinct ids (resultIn a out′)
+  pub ordered : InOrder ids (resultIn a out′)
+  pub behind : drop (lengthOf a) out′ ≡ drop (lengthOf a) out
+
+-- ---- what the parts do
 
 -- the bits of an entry's id
 abbrev pub idBits : ℕ → ℕ
@@ -44,22 +50,9 @@ unfoldable pub isIn : ℕ → List ℕ → Bool
 isIn x [] = false
 isIn x (y ∷ ys) = eqb x y || isIn x ys
 
--- one more behind a list, unless it is there already; and so all of a list
+-- one more behind a list, unless it is there already
 unfoldable pub join : List ℕ → ℕ → List ℕ
 join l x = cond (isIn x l) l (l ++ x ∷ [])
-
-unfoldable pub joinAll : List ℕ → List ℕ → List ℕ
-joinAll l [] = l
-joinAll l (x ∷ xs) = joinAll (join l x) xs
-
--- the different ids of entries that were read, behind those of l; and of a whole body
-unfoldable pub gather : ℕ → List ℕ → Parse (List (List Field)) → Parse (List ℕ)
-gather id l p = andThen p (λ es rest. got (joinAll l (map (the (idName id)) es)) [])
-
-unfoldable pub idsOf : ℕ → Parse Table → Parse (List ℕ)
-idsOf id p = andThen p (λ t rest. got (joinAll [] (entryIds id t)) [])
-
--- ---- what the parts do
 
 -- a number was joined to the first `count`: so many there are then, at most one more
 pub record Joined (ids : List ℕ) (count x count′ : ℕ) (ids′ : List ℕ) : Type 0 where
@@ -67,10 +60,21 @@ pub record Joined (ids : List ℕ) (count x count′ : ℕ) (ids′ : List ℕ) 
   pub first : take count′ ids′ ≡ join (take count ids) x
   pub most : count′ ≤ count + 1
 
--- ids stand at the start of a list and are counted, or are refused
-abbrev pub GatheredIn : Parse (List ℕ) → IdsAnswer → List ℕ → Type 0
-GatheredIn (got l rest) r ids = (r ≡ Ids (length l)) × (length l ≤ length ids) × (take (length l) ids ≡ l)
-GatheredIn (refused number needed had) r ids = r ≡ Refused (refuse number needed had)
+-- the ids of entries that were read, behind those of the entries before them
+unfoldable pub gather : ℕ → List ℕ → Parse (List (List Field)) → Parse (List ℕ)
+gather id before p = andThen p (λ es rest. got (firstOfEach (before ++ map (the (idName id)) es)) [])
 
-pub record Gathered (p : Parse (List ℕ)) (r : IdsAnswer) (ids : List ℕ) : Type 0 where
-  pub to : GatheredIn p r ids
+-- the ids that a reading gives stand at the start of a list
+abbrev pub Front : Parse (List ℕ) → List ℕ → Type 0
+Front (got l rest) ids = (length l ≤ length ids) × (take (length l) ids ≡ l)
+Front (refused number needed had) ids = Unit {0}
+
+-- and r is the answer for a buffer as long as that list
+pub record Gathered (id : ℕ) (p : Parse (List ℕ)) (r : Answer) (ids : List ℕ) : Type 0 where
+  pub is : r ≡ answer id (length ids) p
+  pub front : Front p ids
+
+-- the answer of a call with a longer buffer, for one that holds so many
+unfoldable pub fit : ℕ → Answer → Answer
+fit room (Done id n) = cond (leb n room) (Done id n) (Refused (refuse 22 n room))
+fit room (Refused f) = Refused f

@@ -1,13 +1,13 @@
-// The ids of a body's entries, each different one once.
+// The ids of a body's entries, each different one once, in the order of first entries.
 ghost use mathlib.Core.Path.{_≡_};
 ghost use mathlib.Core.List.{List, []};
 ghost use Prim.Native.Nat.{ℕ, _-_, _*_, _%_, _≤_, _<_};
 ghost use lib.ListN.{length, take, drop};
 ghost use Rattle.format.specs.Digits.{bitsOf, valueAt, splice};
-ghost use Rattle.format.specs.Whole.{layout, entries, bodyRead};
+ghost use Rattle.format.specs.Whole.{layout, entries};
 ghost use Rattle.bits.specs.Read.{Room};
 ghost use Rattle.entries.specs.Entries.{entrySyntax, leastBits, IsList};
-ghost use Rattle.entry_ids.specs.Ids.{idBits, isIn, Joined, gather, idsOf, Gathered, IdsOf};
+ghost use Rattle.entry_ids.specs.Ids.{idsOf, idsAnswer, idsLeft, idBits, isIn, Joined, gather, Gathered, fit};
 use bits::value_at;
 use entries::Walked;
 use entries::end_refusal;
@@ -16,14 +16,12 @@ use entries::head_end;
 use entries::least_bits;
 use entries::walk_body;
 use entries::walk_refusal;
+use format::Answer;
 use format::EntryEnd;
 use format::Refusal;
 
-// How many ids there are, or why there are none to be had.
-pub enum IdsAnswer {
-    Ids(usize),
-    Refused(Refusal),
-}
+// The most entries that 4,096 bytes hold: an entry takes at least four.
+const ENTRIES_MAX: usize = 1024;
 
 // Whether an id is one of the first `count`.
 fn holds(ids: &[u32], count: usize, id: u32) -> bool
@@ -68,11 +66,11 @@ fn entry_id(table_id: u8, s: &[u8], at: usize) -> u32
 }
 
 // The different ids of a list's entries from a place on, in the order in which they are met.
-fn list_ids(table_id: u8, s: &[u8], start: usize, ids: &mut [u32]) -> IdsAnswer
+fn list_ids(table_id: u8, s: &[u8], start: usize, ids: &mut [u32]) -> Answer
     requires { ⌜ (length (now s) ≤ 4096) × (start ≤ 8 * length (now s)) × (start % 8 ≡ 0) ⌝ }
     requires { ⌜ IsList (layout «table_id») ⌝ }
     requires { ⌜ 1024 ≤ length (now ids) ⌝ }
-    ensures { λ r. ⌜ Gathered (gather «table_id» [] (entries (8 * length (now (s .entry))) (leastBits «table_id») (entrySyntax «table_id») (8 * length (now (s .entry)) - start) (drop start (bitsOf (now (s .entry)))))) r (now (ids .exit)) ⌝ }
+    ensures { λ r. ⌜ Gathered «table_id» (gather «table_id» [] (entries (8 * length (now (s .entry))) (leastBits «table_id») (entrySyntax «table_id») (8 * length (now (s .entry)) - start) (drop start (bitsOf (now (s .entry)))))) r (now (ids .exit)) ⌝ }
 {
     let all = 8 * s.len();
     let least = least_bits(table_id);
@@ -81,19 +79,22 @@ fn list_ids(table_id: u8, s: &[u8], start: usize, ids: &mut [u32]) -> IdsAnswer
     while least <= all - at {
         let end = entry_end(table_id, s, at);
         let EntryEnd::At(next) = end else {
-            return IdsAnswer::Refused(end_refusal(end));
+            return Answer::Refused(end_refusal(end));
         };
         let id = entry_id(table_id, s, at);
         count = join(ids, count, id);
         at = next;
     }
-    IdsAnswer::Ids(count)
+    Answer::Done {
+        table_id,
+        length: count,
+    }
 }
 
 // A body that is no list (id 2, and ids from 5 on) has no ids, and is refused as its reading is.
-fn no_ids(table_id: u8, s: &[u8]) -> IdsAnswer
+fn no_ids(table_id: u8, s: &[u8]) -> Answer
     requires { ⌜ («table_id» ≤ 4 → «table_id» ≡ 2) ⌝ }
-    ensures { λ r. ⌜ ((ids : List ℕ) → Gathered (idsOf «table_id» (bodyRead «table_id» (now (s .entry)))) r ids) ⌝ }
+    ensures { λ r. ⌜ ((ids : List ℕ) → Gathered «table_id» (idsOf «table_id» (now (s .entry))) r ids) ⌝ }
 {
     let r = walk_body(table_id, s, 0);
     let Walked::Entries {
@@ -102,18 +103,21 @@ fn no_ids(table_id: u8, s: &[u8]) -> IdsAnswer
         end: _,
     } = r
     else {
-        return IdsAnswer::Refused(walk_refusal(r));
+        return Answer::Refused(walk_refusal(r));
     };
-    IdsAnswer::Ids(0)
+    Answer::Done {
+        table_id,
+        length: 0,
+    }
 }
 
-// The different ids of a body's entries.
-fn gather_ids(table_id: u8, s: &[u8], ids: &mut [u32]) -> IdsAnswer
+// The different ids of a body's entries, in a list that has room for all of them.
+fn gather_ids(table_id: u8, s: &[u8], ids: &mut [u32]) -> Answer
     requires { ⌜ 1024 ≤ length (now ids) ⌝ }
-    ensures { λ r. ⌜ Gathered (idsOf «table_id» (bodyRead «table_id» (now (s .entry)))) r (now (ids .exit)) ⌝ }
+    ensures { λ r. ⌜ Gathered «table_id» (idsOf «table_id» (now (s .entry))) r (now (ids .exit)) ⌝ }
 {
     if 4096 < s.len() {
-        return IdsAnswer::Refused(Refusal {
+        return Answer::Refused(Refusal {
             number: 21,
             need: s.len(),
             have: 4096,
@@ -127,9 +131,39 @@ fn gather_ids(table_id: u8, s: &[u8], ids: &mut [u32]) -> IdsAnswer
     }
     let head = head_end(table_id, s);
     let EntryEnd::At(start) = head else {
-        return IdsAnswer::Refused(end_refusal(head));
+        return Answer::Refused(end_refusal(head));
     };
     list_ids(table_id, s, start, ids)
+}
+
+// The answer for a buffer of so many: 22 where there are more ids.
+fn fit(found: Answer, room: usize) -> Answer
+    ensures { λ r. ⌜ r ≡ fit room found ⌝ }
+{
+    let Answer::Done {
+        table_id,
+        length: count,
+    } = found
+    else {
+        return found;
+    };
+    if room < count {
+        return Answer::Refused(Refusal {
+            number: 22,
+            need: count,
+            have: room,
+        });
+    }
+    found
+}
+
+// What the call below answers with a buffer of so many ids.
+pub fn entry_ids_answer(table_id: u8, body: &[u8], room: usize) -> Answer
+    ensures { λ r. ⌜ r ≡ idsAnswer «table_id» (now (body .entry)) room ⌝ }
+{
+    let mut ids = [0u32; ENTRIES_MAX];
+    let found = gather_ids(table_id, body, &mut ids);
+    fit(found, room)
 }
 
 // Copies the first `count` ids to the start of the lent buffer.
@@ -144,23 +178,21 @@ fn hand_out(ids: &[u32], count: usize, out: &mut [u32])
     }
 }
 
-// Each different id of the body's entries once, in the lent buffer: document 01's roll.
-// An entry takes at least four bytes, so that a body has at most 1,024 of them.
-pub fn entry_ids(table_id: u8, body: &[u8], out: &mut [u32]) -> IdsAnswer
-    ensures { λ r. ⌜ IdsOf «table_id» (now (body .entry)) (now (out .entry)) r (now (out .exit)) ⌝ }
+// The different ids of a body's entries, each where it first stands, from the buffer's start on where there is room for
+// them; after a refusal the buffer is as it was.
+pub fn entry_ids(table_id: u8, body: &[u8], out: &mut [u32]) -> Answer
+    ensures { λ r. ⌜ (r ≡ idsAnswer «table_id» (now (body .entry)) (length (now (out .entry)))) × (now (out .exit) ≡ idsLeft «table_id» (now (body .entry)) (now (out .entry))) ⌝ }
 {
-    let mut ids = [0u32; 1024];
-    let r = gather_ids(table_id, body, &mut ids);
-    let IdsAnswer::Ids(count) = r else {
-        return r;
+    let mut ids = [0u32; ENTRIES_MAX];
+    let found = gather_ids(table_id, body, &mut ids);
+    let answer = fit(found, out.len());
+    let Answer::Done {
+        table_id: _,
+        length: count,
+    } = answer
+    else {
+        return answer;
     };
-    if out.len() < count {
-        return IdsAnswer::Refused(Refusal {
-            number: 22,
-            need: count,
-            have: out.len(),
-        });
-    }
     hand_out(&ids, count, out);
-    r
+    answer
 }

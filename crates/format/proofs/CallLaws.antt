@@ -65,7 +65,7 @@ refused-keeps id out (got xs rest) h = go (leb (length xs) (length out)) _ h
     go false f k = refl
 
 -- where the answer is acceptance, there is a result and room for it
-accepts-result : (id room : ℕ) (p : Parse (List ℕ)) → Numbered p → numberOf (answer id room p) ≡ 0
+pub accepts-result : (id room : ℕ) (p : Parse (List ℕ)) → Numbered p → numberOf (answer id room p) ≡ 0
     → (xs : List ℕ) × (rest : List ℕ) × (p ≡ got xs rest) × (length xs ≤ room)
 unfolding answer numberOf
 accepts-result id room (refused x y z) (refuses n) e = absurd (omega (arith, n))

@@ -15,3 +15,4 @@ pub mod ListLaws
 pub mod WalkLaws
 pub mod StartLaws
 pub mod AgreeLaws
+pub mod IdLaws

@@ -1,4 +1,4 @@
--- What the ledger's writer and reader answer, and what they leave in the buffer that is lent.
+-- What the calls answer that fill a lent buffer, the ledger's writer and reader first, and what they leave in it.
 -- Assumes nothing: these are definitions.
 use Prim.Native.Nat.{ℕ, _≤_}
 use mathlib.Core.Path.{_≡_}
@@ -37,12 +37,12 @@ lengthOf (Refused f) = 0
 
 -- ---- a result and the buffer that is lent for it
 
--- the answer, where room is the buffer's length: 22 if the result is longer
+-- the answer, where room is the buffer's length, counted as the result is (bytes, or ids): 22 if the result is longer
 unfoldable pub answer : ℕ → ℕ → Parse (List ℕ) → Answer
 answer id room (got xs rest) = cond (leb (length xs) room) (Done id (length xs)) (Refused (refuse 22 (length xs) room))
 answer id room (refused number needed had) = Refused (refuse number needed had)
 
--- the buffer afterwards: the result and behind it the old bytes; all old bytes after a refusal
+-- the buffer afterwards: the result and behind it the old values; all old values after a refusal
 unfoldable pub left : List ℕ → Parse (List ℕ) → List ℕ
 left out (got xs rest) = cond (leb (length xs) (length out)) (splice out 0 xs) out
 left out (refused number needed had) = out

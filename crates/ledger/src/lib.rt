@@ -1,11 +1,14 @@
-// The ledger's writer and reader and the plain body, for C. The call that fills a buffer returns 0 or the refusal's
-// number; the further calls take the same bytes and the buffer's length, write nothing, and give the answer's other
-// numbers, 0 where there is none.
+// The ledger's writer and reader, the plain body and the entries' ids, for C. The call that fills a buffer returns 0 or
+// the refusal's number; the further calls take the same bytes and the buffer's length, write nothing, and give the
+// answer's other numbers, 0 where there is none.
 ghost use mathlib.Core.Path.{_≡_};
 ghost use lib.ListN.{length};
 ghost use Rattle.format.specs.Calls.{numberOf, needOf, haveOf, tableIdOf, lengthOf, writeAnswer, writeLeft, readAnswer, readLeft};
 ghost use Rattle.plain_body.specs.Plain.{plainAnswer, plainLeft};
+ghost use Rattle.entry_ids.specs.Ids.{idsAnswer, idsLeft};
 ghost use Rattle.ledger.specs.Sizes.{Fitted, MeasureFitted};
+use entry_ids::entry_ids;
+use entry_ids::entry_ids_answer;
 use format::Answer;
 use format::Refusal;
 use ledger_reader::Measure;
@@ -274,5 +277,42 @@ pub extern "C" fn sat_plain_body_length(table_id: u8, body: &[u8], out_len: usiz
     ensures { λ r. ⌜ r ≡ lengthOf (plainAnswer «table_id» (now (body .entry)) «out_len») ⌝ }
 {
     let answer = plain_answer(table_id, body, out_len);
+    length_of(answer)
+}
+
+// The different ids of a body's entries in the order of first entries, at the buffer's start; after a refusal the buffer
+// is as it was.
+#[no_mangle]
+pub extern "C" fn sat_entry_ids(table_id: u8, body: &[u8], out: &mut [u32]) -> u32
+    ensures { λ r. ⌜ (r ≡ numberOf (idsAnswer «table_id» (now (body .entry)) (length (now (out .entry))))) × (now (out .exit) ≡ idsLeft «table_id» (now (body .entry)) (now (out .entry))) ⌝ }
+{
+    let answer = entry_ids(table_id, body, out);
+    number_of(answer)
+}
+
+// The first value of the refusal of the call above.
+#[no_mangle]
+pub extern "C" fn sat_entry_ids_need(table_id: u8, body: &[u8], out_len: usize) -> usize
+    ensures { λ r. ⌜ r ≡ needOf (idsAnswer «table_id» (now (body .entry)) «out_len») ⌝ }
+{
+    let answer = entry_ids_answer(table_id, body, out_len);
+    need_of(answer)
+}
+
+// The second value of that refusal.
+#[no_mangle]
+pub extern "C" fn sat_entry_ids_have(table_id: u8, body: &[u8], out_len: usize) -> usize
+    ensures { λ r. ⌜ r ≡ haveOf (idsAnswer «table_id» (now (body .entry)) «out_len») ⌝ }
+{
+    let answer = entry_ids_answer(table_id, body, out_len);
+    have_of(answer)
+}
+
+// How many ids are left in the buffer.
+#[no_mangle]
+pub extern "C" fn sat_entry_ids_length(table_id: u8, body: &[u8], out_len: usize) -> usize
+    ensures { λ r. ⌜ r ≡ lengthOf (idsAnswer «table_id» (now (body .entry)) «out_len») ⌝ }
+{
+    let answer = entry_ids_answer(table_id, body, out_len);
     length_of(answer)
 }

@@ -1,6 +1,6 @@
 // A case: a table id and a body, listed with all that the library reads of it.
-use entry_ids::IdsAnswer;
 use entry_ids::entry_ids;
+use format::Answer;
 use format::Refusal;
 use list_tables::associations;
 use list_tables::fragments;
@@ -164,11 +164,15 @@ fn show_entry(
     }
 }
 
-// The different ids of the entries on one line. A body has at most 1,024 entries.
+// The different ids of the entries on one line, in the order of first entries. A body has at most 1,024 entries.
 fn show_ids(out: &mut [u8; 8192], used: usize, id: u8, body: &[u8]) -> usize {
     let mut ids = [0u32; 1024];
     let found = entry_ids(id, body, &mut ids);
-    let IdsAnswer::Ids(count) = found else {
+    let Answer::Done {
+        table_id: _,
+        length: count,
+    } = found
+    else {
         return used;
     };
     let used = put_text(out, used, b"ids");
