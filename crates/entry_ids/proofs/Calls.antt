@@ -1,18 +1,18 @@
 -- The ids of a body's entries, of what the call returns and leaves: document 01's roll in the order of S-10.
 -- Assumes nothing.
 use Prim.Native.Nat.{ℕ, _*_, _/_, _≤_}
-use mathlib.Core.Path.{_≡_, refl, sym, ap, _∙_}
+use mathlib.Core.Path.{_≡_}
 use mathlib.Core.Logic.{_↔_}
 use mathlib.Core.List.{List, [], _∷_, _++_, map}
 use native.Mathlib.Omega.{arith}
 use lib.ListN.{length, length-append, length-map}
 use borrow.Author.Tests.{le-leb}
-use Rattle.format.specs.Syntax.{Syntax, Field, Parse, got, refused}
+use Rattle.format.specs.Syntax.{Syntax, Field, got}
 use Rattle.format.specs.Body.{plain}
 use Rattle.format.specs.Whole.{Layout, Table, entriesOf, bodyRead, Accepted, plains, plainOf}
-use Rattle.format.specs.Calls.{answer, numberOf, lengthOf, resultIn}
+use Rattle.format.specs.Calls.{answer, numberOf}
 use Rattle.format.specs.ByName.{the}
-use Rattle.format.specs.Added.{idName, entryIds, firstOfEach, Distinct, InOrder}
+use Rattle.format.specs.Added.{idName, entryIds, firstOfEach}
 use Rattle.format.proofs.DigitLaws.{length-bytes}
 use Rattle.format.proofs.ParseLaws.{then-got}
 use Rattle.format.proofs.Good
@@ -25,6 +25,8 @@ use Rattle.format.proofs.IdLaws.{each-once, first-shorter, first-order}
 use Rattle.entries.specs.Entries.{IsList, leastIn}
 use Rattle.entry_ids.specs.Ids.{idsOf, idsAnswer, idsLeft, Listed}
 use Rattle.entry_ids.proofs.Walks.{word-entry}
+
+-- ---- the calls
 
 ids-table : (id : ℕ) (b xs rest : List ℕ) → idsOf id b ≡ got xs rest → (t : Table) × (bodyRead id b ≡ got t []) × (xs ≡ firstOfEach (entryIds id t))
 unfolding idsOf
@@ -52,8 +54,8 @@ ids-exactly id b room = (there, back)
     back : (t : Table) × (bodyRead id b ≡ got t []) × (length (firstOfEach (entryIds id t)) ≤ room) → numberOf (answer id room (idsOf id b)) ≡ 0
     back r = rw (r .1, le-leb (length (firstOfEach (entryIds id (r .0)))) room (r .2))
 
--- what it leaves then: each different id of the entries once and nothing else, in the order of first entries, and behind them
--- the old values
+-- what it leaves then: each different id of the entries once and nothing else, in the order of first entries, and
+-- behind them the old values
 pub ids-listed : (id : ℕ) (b out : List ℕ) (t : Table) → bodyRead id b ≡ got t [] → length (firstOfEach (entryIds id t)) ≤ length out
     → Listed (entryIds id t) out (idsAnswer id b (length out)) (idsLeft id b out)
 unfolding idsAnswer idsLeft idsOf

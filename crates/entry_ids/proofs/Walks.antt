@@ -95,8 +95,8 @@ module _ (id : ℕ) (b : List ℕ) where
 
   -- ---- the loop
 
-  -- what it keeps at a place: of the ids passed each where it first stands is gathered; the others are those of the walk from
-  -- here on
+  -- what it keeps at a place: of the ids passed each where it first stands is gathered; the others are those of the
+  -- walk from here on
   pub record Kept (start at count : ℕ) (kept : List ℕ) : Type 0 where
     pub within : at ≤ n
     pub byte : at % 8 ≡ 0

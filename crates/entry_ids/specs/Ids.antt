@@ -17,7 +17,8 @@ use Rattle.format.specs.declared.Answer.the-variants.{Done, Refused}
 
 -- ---- what a caller gets
 
--- document 01's roll, in the order of S-10: of the ids of a body's entries each where it first stands, or the body's refusal
+-- document 01's roll, in the order of S-10: of the ids of a body's entries each where it first stands, or the body's
+-- refusal
 unfoldable pub idsOf : ℕ → List ℕ → Parse (List ℕ)
 idsOf id b = andThen (bodyRead id b) (λ t rest. got (firstOfEach (entryIds id t)) [])
 

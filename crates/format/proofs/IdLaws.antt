@@ -1,7 +1,7 @@
--- Of some ids, each where it first stands: each different one once and nothing else, in the order of first places; and no
--- other list is that.
+-- Of some ids, each where it first stands: each different one once and nothing else, in the order of first places; and
+-- no other list is that.
 -- Assumes nothing.
-use Prim.Native.Nat.{ℕ, suc, _≤_, _<_}
+use Prim.Native.Nat.{ℕ, suc, _≤_}
 use mathlib.Core.Path.{_≡_, refl, sym, ap, _∙_}
 use mathlib.Core.Logic.{_↔_, _⊎_, inl, inr, ⊎-elim}
 use mathlib.Core.Bool.{Bool, true, false, cond}
@@ -125,6 +125,11 @@ first-order (x ∷ ids) = (
   λ y m. rw (place-first x ids, place-behind x ids y (without-from x y (firstOfEach ids) m .1)) (omega arith),
   order-behind x ids (firstOfEach ids) (first-order ids),
 )
+
+-- the second 7 adds nothing, and 9 does not come first for it
+pub sample-order : firstOfEach (7 ∷ 9 ∷ 7 ∷ 8 ∷ []) ≡ 7 ∷ 9 ∷ 8 ∷ []
+unfolding firstOfEach without
+sample-order = refl
 
 -- ---- no other list has both
 

@@ -280,8 +280,8 @@ pub extern "C" fn sat_plain_body_length(table_id: u8, body: &[u8], out_len: usiz
     length_of(answer)
 }
 
-// The different ids of a body's entries in the order of first entries, at the buffer's start; after a refusal the buffer
-// is as it was.
+// The different ids of a body's entries in the order of first entries, at the buffer's start; after a refusal the
+// buffer is as it was.
 #[no_mangle]
 pub extern "C" fn sat_entry_ids(table_id: u8, body: &[u8], out: &mut [u32]) -> u32
     ensures { λ r. ⌜ (r ≡ numberOf (idsAnswer «table_id» (now (body .entry)) (length (now (out .entry))))) × (now (out .exit) ≡ idsLeft «table_id» (now (body .entry)) (now (out .entry))) ⌝ }

@@ -1,6 +1,5 @@
 -- `fit` meets its contract, by the answer and the buffer's length.
 -- Assumes nothing.
-use mathlib.Core.Path.{sym, ap, _∙_}
 use Rattle.entry_ids.proofs.Bodies.{fit-no, fit-short, fit-enough}
 use borrow.Author.Needs.{needs}
 use Rattle.entry_ids.proofs.fit.Statement.{statement}

@@ -1,4 +1,4 @@
--- `list_ids` meets its contract. The loop's invariant: those gathered, and then those of the walk from here on, are all.
+-- `list_ids` meets its contract. The loop's invariant: of the ids passed each is gathered where it first stands.
 -- Assumes nothing.
 use mathlib.Core.Path.{_≡_, refl, sym, _∙_}
 use Prim.Native.Nat.{_-_, _*_}
