@@ -2,9 +2,9 @@
  *
  * sat_ledger_write files a body: it stores the ledger at the start of `out`. sat_ledger_read takes a ledger back to
  * the plain body. sat_plain_body gives a body's plain body without its ledger. sat_entry_ids lists the ids of a body's
- * entries, each different one once, in the order of their first entries; bodies of table id 2 and of ids from 5 on have
- * none. All four return 0, or the number of the refusal. On 0 what stands in `out` behind the result keeps its value;
- * after a refusal all of it does.
+ * entries, each different one once, in the order of their first entries; bodies of table id 2 and of ids from 5 on
+ * have none. All four return 0, or the number of the refusal. On 0 what stands in `out` behind the result keeps its
+ * value; after a refusal all of it does.
  *
  * The further calls are given the same bytes and the length of the buffer, not the buffer. They write nothing, keep
  * nothing between calls, and may be made before, after or without the call that fills the buffer:

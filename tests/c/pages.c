@@ -282,6 +282,30 @@ static void long_ledgers(void)
     plans(133);
 }
 
+/* ---- as many ids as a body can have: table id 4, a header of 8 bytes, 681 satellites of 6 */
+
+#define MOST 681
+static uint8_t satellites[8 + 6 * MOST];
+
+static void name_satellite(size_t i, uint32_t id)
+{
+    uint8_t *at = satellites + 8 + 6 * i;
+    at[0] = (uint8_t)(id >> 16), at[1] = (uint8_t)(id >> 8), at[2] = (uint8_t)id;
+}
+
+/* all different, and in no order of their own; then five, where 0 comes first and also last */
+static void many_ids(void)
+{
+    static uint32_t all[MOST];
+    static const uint32_t five[] = {0, 4, 3, 2, 1};
+    for (size_t i = 0; i < MOST; i++)
+        name_satellite(i, all[i] = (uint32_t)(7 * i % MOST * 24000));
+    rooms(&IDS, 4, satellites, sizeof satellites, result(all, MOST));
+    for (size_t i = 0; i < MOST; i++)
+        name_satellite(i, (uint32_t)((MOST - 1 - i) % 5));
+    rooms(&IDS, 4, satellites, sizeof satellites, result(five, 5));
+}
+
 /* ---- the replay list */
 
 static Want refusal_of(const char *text)
@@ -345,6 +369,7 @@ int main(int argc, char **argv)
     nothings();
     damaged_ledgers();
     long_ledgers();
+    many_ids();
     line = 0;
     while (fgets(text[0], sizeof text[0], file[0])) {
         for (int i = 1; i < 4; i++)

@@ -27,7 +27,8 @@ use Rattle.format.proofs.AgreeLaws.{Agree, counted, refuses, starts-agree}
 use Rattle.entries.specs.Entries.{IsList, entryIn, leastIn, headIn, entrySyntax, leastBits, headSyntax}
 use Rattle.entries.specs.declared.Walked.the-variants as walked
 use Rattle.entries.proofs.Bodies.{Headed, headed}
-use Rattle.entry_ids.specs.Ids.{idsOf, idsAnswer, idsLeft, gather, Front, Gathered, fit}
+use Rattle.entry_ids.specs.Ids.{idsOf, idsAnswer, idsLeft}
+use Rattle.entry_ids.specs.Steps.{gather, Front, Gathered, fit}
 
 module _ (id : ℕ) (b : List ℕ) where
   abbrev n : ℕ

@@ -13,7 +13,7 @@ use lib.Seq.{take-suc, take-suc-set, length-take-le, split-at, paste, paste-suc}
 use borrow.Author.Tests.{eqb-true, eqb-false, eq-eqb, ne-eqb}
 use Rattle.format.specs.Digits.{splice}
 use Rattle.format.specs.Added.{without, firstOfEach}
-use Rattle.entry_ids.specs.Ids.{isIn, join, Joined}
+use Rattle.entry_ids.specs.Steps.{isIn, join, Joined}
 
 -- ---- the test
 

@@ -24,7 +24,7 @@ use Rattle.format.proofs.ParseLaws.{cond-got, push-got}
 use Rattle.format.proofs.WalkLaws.{Met, read-on, read-no, turn-on as turns-on, turn-no as turns-no, turn-end as turns-end}
 use Rattle.entries.specs.Entries.{IsList, entrySyntax, leastBits}
 use Rattle.entries.proofs.Ends.{fine-entry, least-entry, byte-entry}
-use Rattle.entry_ids.specs.Ids.{idBits, join, gather, Joined, Gathered}
+use Rattle.entry_ids.specs.Steps.{idBits, join, gather, Joined, Gathered}
 use Rattle.entry_ids.proofs.Lists.{first-last}
 
 -- ---- an entry's id

@@ -5,7 +5,7 @@ use Prim.Native.Nat.{ℕ, zero, suc}
 use Rattle.format.specs.Whole.{layout}
 use Rattle.bits.proofs.Answers.{value-fits}
 use Rattle.entries.specs.Entries.{IsList}
-use Rattle.entry_ids.specs.Ids.{idBits}
+use Rattle.entry_ids.specs.Steps.{idBits}
 use borrow.Author.Needs.{needs}
 use Rattle.entry_ids.proofs.entry_id.Statement.{statement}
 use Rattle.entry_ids.proofs.entry_id.Tie as tie

@@ -6,7 +6,7 @@ use Prim.Native.Nat.{_-_, _≤_}
 use native.Mathlib.Omega.{arith}
 use lib.ListN.{take}
 use lib.Seq.{getD-take, length-take-le}
-use Rattle.entry_ids.specs.Ids.{isIn}
+use Rattle.entry_ids.specs.Steps.{isIn}
 use Rattle.entry_ids.proofs.Lists.{is-in-more, is-in-met}
 use Rattle.entry_ids.proofs.holds.Statement.{statement}
 use Rattle.entry_ids.proofs.holds.Tie as tie
