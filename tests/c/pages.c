@@ -1,9 +1,10 @@
 /* Buffers against unreadable pages: pages BODIES LEDGERS PLAINS IDS, four files with one case a line. BODIES and
- * LEDGERS are the replay list with the Rust's answers, PLAINS what tests/replay/decode.py makes of the ledgers, IDS what
- * tests/replay/ids.py lists of the bodies; none comes from the code under test. A byte touched outside a buffer ends the
- * program. Every tenth case and the first 60 are tried.
+ * LEDGERS are the replay list with the Rust's answers, PLAINS what tests/replay/decode.py makes of the ledgers, IDS
+ * what tests/replay/ids.py lists of the bodies; none comes from the code under test. A byte touched outside a buffer
+ * ends the program. Every tenth case and the first 60 are tried.
  */
 #define _DEFAULT_SOURCE
+#include <inttypes.h>
 #include <stdio.h>
 #include <stdlib.h>
 #include <string.h>
@@ -79,7 +80,7 @@ static uint32_t ids(uint8_t id, const uint8_t *in, size_t n, uint8_t *out, size_
     return sat_entry_ids(id, in, n, (uint32_t *)(void *)out, room);
 }
 
-/* a unit's bytes, and as many units as every result has room in; no ids have a table id */
+/* a unit's bytes, and a room in units that holds every result; table_id is NULL where there is no such call */
 typedef struct {
     const char *name;
     size_t unit, most;
@@ -93,10 +94,10 @@ typedef struct {
 static const Call
     WRITE = {"sat_ledger_write", 1, SAT_LEDGER_MAX, sat_ledger_write, sat_ledger_write_need, sat_ledger_write_have,
              sat_ledger_write_length, sat_ledger_write_table_id},
-    READ = {"sat_ledger_read", 1, SAT_BODY_MAX, read_, read_need, read_have, read_length, read_table_id},
-    PLAIN = {"sat_plain_body", 1, SAT_BODY_MAX, sat_plain_body, sat_plain_body_need, sat_plain_body_have,
+    READ = {"sat_ledger_read", 1, SAT_LEDGER_MAX, read_, read_need, read_have, read_length, read_table_id},
+    PLAIN = {"sat_plain_body", 1, SAT_LEDGER_MAX, sat_plain_body, sat_plain_body_need, sat_plain_body_have,
              sat_plain_body_length, sat_plain_body_table_id},
-    IDS = {"sat_entry_ids", sizeof(uint32_t), SAT_ENTRY_IDS_MAX, ids, sat_entry_ids_need, sat_entry_ids_have,
+    IDS = {"sat_entry_ids", sizeof(uint32_t), SPAN / sizeof(uint32_t), ids, sat_entry_ids_need, sat_entry_ids_have,
            sat_entry_ids_length, NULL};
 
 /* ---- what is wanted of a call: the result's bytes and its size in units, or a refusal where bytes is NULL */
@@ -322,9 +323,11 @@ static void listed(uint8_t id, const uint8_t *body, size_t n, const char *ids_li
     if (w.number == 0) {
         size_t count = 0;
         int more = 0;
+        const char *p = ids_line + 3;
         check(strncmp(ids_line, "ids", 3) == 0, "the fourth file's line");
-        for (const char *p = ids_line + 3; sscanf(p, "%u%n", &given[count], &more) == 1; p += more)
+        for (; count < SAT_ENTRY_IDS_MAX && sscanf(p, "%" SCNu32 "%n", &given[count], &more) == 1; p += more)
             count++;
+        check(strcmp(p, "\n") == 0, "the fourth file's line");
         w = result(given, count);
     }
     rooms(&IDS, id, body, n, w);

@@ -4,7 +4,7 @@
  * batch back    the same, and the ledger is read back: the answer is the plain body, '-' for an empty one
  * batch plain   a line is a table id and a body; the answer is the plain body, '-' for an empty one, made of the body itself
  * batch read    a line is a ledger; the answer is the table id (two digits) and the plain body
- * batch ids [N] a line is a table id and a body; the answer is 'ids' and the ids of the entries, in a buffer of N (1,024)
+ * batch ids [N] a line is a table id and a body; the answer is 'ids' and the entries' ids, in a buffer of N (1,024)
  *
  * A refusal is 'R number need have'; an empty line gives 'no input'. Exit 2 on bad hexadecimal or a bad argument. */
 #include "sat_ledger.h"
@@ -132,8 +132,10 @@ int main(int argc, char **argv) {
     const char *what = argc >= 2 ? argv[1] : "";
     int is_read = strcmp(what, "read") == 0, back = strcmp(what, "back") == 0, plain = strcmp(what, "plain") == 0;
     int ids = strcmp(what, "ids") == 0;
-    size_t room = argc == 3 ? strtoul(argv[2], NULL, 10) : SAT_ENTRY_IDS_MAX;
-    if ((!is_read && !back && !plain && !ids && strcmp(what, "write") != 0) || argc > 2 + ids || room > SAT_ENTRY_IDS_MAX) {
+    char *end = "";
+    size_t room = argc == 3 ? strtoul(argv[2], &end, 10) : SAT_ENTRY_IDS_MAX;
+    int known = is_read || back || plain || ids || strcmp(what, "write") == 0;
+    if (!known || argc > 2 + ids || *end != '\0' || end == argv[argc - 1] || room > SAT_ENTRY_IDS_MAX) {
         fputs("use: batch write|back|plain|read|ids [N] < cases\n", stderr);
         return 2;
     }

@@ -1,13 +1,12 @@
 -- The ids of a whole body: by its layout, and as a caller gets them.
 -- Assumes nothing.
 use mathlib.Core.Path.{_≡_, refl, sym, ap, _∙_}
-use mathlib.Core.Bool.{Bool, true, false, cond}
 use mathlib.Core.List.{List, []}
 use Prim.Native.Nat.{ℕ, zero, suc, _*_, _-_, _≤_, _<_}
 use native.Mathlib.Omega.{arith}
 use lib.Dec.{leb}
 use lib.ListN.{length, take, drop}
-use borrow.Author.Tests.{le-leb, lt-leb, leb-true}
+use borrow.Author.Tests.{le-leb, lt-leb}
 use Rattle.format.specs.Digits.{bitsOf, splice}
 use Rattle.format.specs.Refusals.{refuse}
 use Rattle.format.specs.Syntax.{Field, Parse, got, refused, andThen}
@@ -23,6 +22,7 @@ use Rattle.format.specs.declared.Answer.the-variants as answers
 use Rattle.format.specs.declared.EntryEnd.the-variants.{At}
 use Rattle.format.proofs.ParseLaws.{cond-got, then-got}
 use Rattle.format.proofs.ReadLaws.{rest-at}
+use Rattle.format.proofs.CallLaws.{answer-done, answer-refused}
 use Rattle.format.proofs.AgreeLaws.{Agree, counted, refuses, starts-agree}
 use Rattle.entries.specs.Entries.{IsList, entryIn, leastIn, headIn, entrySyntax, leastBits, headSyntax}
 use Rattle.entries.specs.declared.Walked.the-variants as walked
@@ -141,18 +141,9 @@ fit-answer {r} {a} {kept} id b room g e = e ∙ ap (fit room) (g .is) ∙ go (id
     go (refused x y z) f = refl
 
 -- refused: the buffer is as it was
-left-refused : {f : Refusal} (id : ℕ) (out : List ℕ) (p : Parse (List ℕ)) → answer id (length out) p ≡ answers.Refused f → out ≡ left out p
-unfolding answer left
-left-refused id out (refused x y z) e = refl
-left-refused {f} id out (got l rest) e = go (leb (length l) (length out)) _ e
-  where
-    go : (t : Bool) (g : Refusal) → cond t (answers.Done id (length l)) (answers.Refused g) ≡ answers.Refused f → out ≡ cond t (splice out 0 l) out
-    go true g e = let o : _≡_ {A = ℕ} 0 1 = cc in absurd (omega arith)
-    go false g e = refl
-
 pub left-no : {a : Answer} {f : Refusal} (id : ℕ) (b out : List ℕ) → a ≡ idsAnswer id b (length out) → a ≡ answers.Refused f → out ≡ idsLeft id b out
 unfolding idsAnswer idsLeft
-left-no id b out e q = left-refused id out (idsOf id b) (sym e ∙ q)
+left-no id b out e q = sym (answer-refused id out (idsOf id b) (sym e ∙ q))
 
 -- accepted: there is room, and what was gathered is the result
 pub record Held (out kept : List ℕ) (p : Parse (List ℕ)) (count : ℕ) : Type 0 where
@@ -160,26 +151,20 @@ pub record Held (out kept : List ℕ) (p : Parse (List ℕ)) (count : ℕ) : Typ
   pub room : count ≤ length out
   pub leaves : splice out 0 (take count kept) ≡ left out p
 
-held : {t count : ℕ} {kept : List ℕ} (id : ℕ) (out : List ℕ) (p : Parse (List ℕ)) → Front p kept → answer id (length out) p ≡ answers.Done t count → Held out kept p count
-unfolding answer left
-held id out (refused x y z) f e = let o : _≡_ {A = ℕ} 0 1 = cc in absurd (omega arith)
-held {t} {count} {kept} id out (got l rest) f e = go (leb (length l) (length out)) refl _ e
-  where
-    go : (u : Bool) → leb (length l) (length out) ≡ u → (g : Refusal) → cond u (answers.Done id (length l)) (answers.Refused g) ≡ answers.Done t count → Held out kept (got l rest) count
-    go false q g e = let o : _≡_ {A = ℕ} 0 1 = cc in absurd (omega arith)
-    go true q g e =
-        let c : length l ≡ count = cc in
-        let h = leb-true (length l) (length out) q in
-        record {
-          within = omega (arith, c, f .0);
-          room = omega (arith, c, h);
-          leaves = rw (← c, f .1, le-leb (length l) (length out) h);
-        }
+held : {count : ℕ} {kept l rest : List ℕ} (out : List ℕ) (p : Parse (List ℕ)) → p ≡ got l rest → length l ≡ count → count ≤ length out → Front p kept → Held out kept p count
+unfolding left
+held {kept = kept} {l} {rest} out p e c h f =
+    let g : Front (got l rest) kept = rw e at f in
+    record {
+      within = omega (arith, c, g .0);
+      room = h;
+      leaves = rw (e, ← c, g .1, le-leb (length l) (length out) (omega (arith, c, h)));
+    }
 
 pub given-held : {a : Answer} {t count : ℕ} {kept : List ℕ} (id : ℕ) (b out : List ℕ) → a ≡ idsAnswer id b (length out) → a ≡ answers.Done t count → Front (idsOf id b) kept
     → Held out kept (idsOf id b) count
 unfolding idsAnswer
-given-held id b out e q f = held id out (idsOf id b) f (sym e ∙ q)
+given-held id b out e q f = let o = answer-done id (length out) (idsOf id b) (sym e ∙ q) in held out (idsOf id b) (o .2) (o .3) (o .4) f
 
 pub given-left : {kept out′ : List ℕ} {count : ℕ} (id : ℕ) (b out : List ℕ) → Held out kept (idsOf id b) count → out′ ≡ splice out 0 (take count kept) → out′ ≡ idsLeft id b out
 unfolding idsLeft

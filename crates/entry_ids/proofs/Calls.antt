@@ -1,7 +1,7 @@
 -- The ids of a body's entries, of what the call returns and leaves: document 01's roll in the order of S-10.
 -- Assumes nothing.
 use Prim.Native.Nat.{ℕ, _*_, _/_, _≤_}
-use mathlib.Core.Path.{_≡_}
+use mathlib.Core.Path.{_≡_, sym, ap, _∙_}
 use mathlib.Core.Logic.{_↔_}
 use mathlib.Core.List.{List, [], _∷_, _++_, map}
 use native.Mathlib.Omega.{arith}
@@ -64,6 +64,7 @@ ids-listed id b out t e h =
     let g = result-given id out xs [] (idsOf id b) (rw e) h in
     record {
       accepts = g .accepts;
+      size = g .size ∙ ap length (sym (g .result));
       distinct = rw (g .result) (each-once (entryIds id t));
       ordered = rw (g .result) (first-order (entryIds id t));
       behind = rw (g .size) (g .behind);
@@ -83,7 +84,7 @@ table-few x h (good-list {s} {m} {hs} {es} g gs) =
     omega (arith, length-bytes (length p / 8) p, length-append (plain hs) (plains es), entries-few s m es (x .2) (h tt) gs)
 table-few x h (good-raw g) = omega arith
 
--- a quarter of the body's bytes is enough, and so is 1,024
+-- there are at most a quarter as many ids as the body has bytes, and at most 1,024: so many are always enough
 pub ids-few : {id : ℕ} {b : List ℕ} {t : Table} → Accepted id b t → (4 * length (firstOfEach (entryIds id t)) ≤ length b) × (length (firstOfEach (entryIds id t)) ≤ 1024)
 unfolding entryIds
 ids-few {id} {b} {t} p =
@@ -92,3 +93,6 @@ ids-few {id} {b} {t} p =
     let s = first-shorter (map (the (idName id)) (entriesOf t)) in
     let l = length-map (entriesOf t) (the (idName id)) in
     (omega (arith, f, s, l, g .1), omega (arith, f, s, l, g .1))
+
+pub ids-suffice : {id : ℕ} {b : List ℕ} {t : Table} (room : ℕ) → Accepted id b t → 1024 ≤ room → numberOf (idsAnswer id b room) ≡ 0
+ids-suffice {id} {b} {t} room p h = ids-exactly id b room .1 (t, p .reads, omega (arith, ids-few p .1))

@@ -3,7 +3,7 @@
 use Prim.Native.Nat.{ℕ}
 use mathlib.Core.Path.{_≡_}
 use mathlib.Core.List.{List, []}
-use lib.ListN.{drop}
+use lib.ListN.{length, drop}
 use Rattle.format.specs.Syntax.{Parse, got, andThen}
 use Rattle.format.specs.Whole.{bodyRead}
 use Rattle.format.specs.Calls.{answer, left, numberOf, lengthOf, resultIn}
@@ -25,6 +25,7 @@ idsLeft id b out = left out (idsOf id b)
 -- what the papers promise of an answer and the buffer afterwards, given the ids of all entries and the buffer before
 pub record Listed (ids out : List ℕ) (a : Answer) (out′ : List ℕ) : Type 0 where
   pub accepts : numberOf a ≡ 0
+  pub size : lengthOf a ≡ length (resultIn a out′)
   pub distinct : Distinct ids (resultIn a out′)
   pub ordered : InOrder ids (resultIn a out′)
   pub behind : drop (lengthOf a) out′ ≡ drop (lengthOf a) out

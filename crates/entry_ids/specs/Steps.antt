@@ -51,7 +51,7 @@ pub record Gathered (id : ℕ) (p : Parse (List ℕ)) (r : Answer) (ids : List �
   pub is : r ≡ answer id (length ids) p
   pub front : Front p ids
 
--- the answer of a call with a longer buffer, for one that holds so many
+-- the answer for a buffer that holds so many, given the one for a buffer that has room for all
 unfoldable pub fit : ℕ → Answer → Answer
 fit room (Done id n) = cond (leb n room) (Done id n) (Refused (refuse 22 n room))
 fit room (Refused f) = Refused f

@@ -34,25 +34,36 @@ left-length out (got xs rest) = go (leb (length xs) (length out)) refl
     go true e = length-append xs (drop (0 + length xs) out) ∙ omega (arith, length-drop (0 + length xs) out, leb-true (length xs) (length out) e)
     go false e = refl
 
--- a result's length is one that the buffer has
-answer-within : {t n : ℕ} (id room : ℕ) (p : Parse (List ℕ)) → answer id room p ≡ Done t n → n ≤ room
+-- what an answer tells: a result, its length, and room for it
+pub answer-done : {t n : ℕ} (id room : ℕ) (p : Parse (List ℕ)) → answer id room p ≡ Done t n
+    → (xs : List ℕ) × (rest : List ℕ) × (p ≡ got xs rest) × (length xs ≡ n) × (n ≤ room)
 unfolding answer
-answer-within id room (refused x y z) e = let o : _≡_ {A = ℕ} 0 1 = cc in absurd (omega arith)
-answer-within {t} {n} id room (got xs rest) e = go (leb (length xs) room) refl _ e
+answer-done id room (refused x y z) e = let o : _≡_ {A = ℕ} 0 1 = cc in absurd (omega arith)
+answer-done {t} {n} id room (got xs rest) e = let o = go (leb (length xs) room) refl _ e in (xs, rest, refl, o .0, o .1)
   where
-    go : (b : Bool) → leb (length xs) room ≡ b → (f : Refusal) → cond b (Done id (length xs)) (Refused f) ≡ Done t n → n ≤ room
+    go : (b : Bool) → leb (length xs) room ≡ b → (f : Refusal) → cond b (Done id (length xs)) (Refused f) ≡ Done t n → (length xs ≡ n) × (n ≤ room)
     go true q f e =
         let z : length xs ≡ n = cc in
-        omega (arith, z, leb-true (length xs) room q)
+        (z, omega (arith, z, leb-true (length xs) room q))
     go false q f e = let o : _≡_ {A = ℕ} 0 1 = cc in absurd (omega arith)
+
+-- or that the buffer is as it was
+pub answer-refused : {f : Refusal} (id : ℕ) (out : List ℕ) (p : Parse (List ℕ)) → answer id (length out) p ≡ Refused f → left out p ≡ out
+unfolding answer left
+answer-refused id out (refused x y z) e = refl
+answer-refused {f} id out (got xs rest) e = go (leb (length xs) (length out)) _ e
+  where
+    go : (t : Bool) (g : Refusal) → cond t (Done id (length xs)) (Refused g) ≡ Refused f → cond t (splice out 0 xs) out ≡ out
+    go true g e = let o : _≡_ {A = ℕ} 0 1 = cc in absurd (omega arith)
+    go false g e = refl
 
 pub write-within : {t n : ℕ} (id : ℕ) (b : List ℕ) (room : ℕ) → writeAnswer id b room ≡ Done t n → n ≤ room
 unfolding writeAnswer
-write-within id b room e = answer-within id room (filed id b) e
+write-within id b room e = answer-done id room (filed id b) e .4
 
 pub read-within : {t n : ℕ} (l : List ℕ) (room : ℕ) → readAnswer l room ≡ Done t n → n ≤ room
 unfolding readAnswer
-read-within l room e = answer-within (idOf l) room (restored l) e
+read-within l room e = answer-done (idOf l) room (restored l) e .4
 
 -- demand 1: after a refusal the buffer is as it was
 pub refused-keeps : (id : ℕ) (out : List ℕ) (p : Parse (List ℕ)) → (numberOf (answer id (length out) p) ≡ 0 → ⊥) → left out p ≡ out
@@ -75,7 +86,7 @@ accepts-result id room (got xs rest) n e = (xs, rest, refl, go (leb (length xs) 
     go true q f h e = leb-true (length xs) room q
     go false q f h e = absurd (omega (arith, h))
 
--- a result for which there is room: acceptance, the result, and behind it the old bytes
+-- a result for which there is room: acceptance, the result, and behind it the old values
 pub record Given (id : ℕ) (out xs : List ℕ) (a : Answer) (out′ : List ℕ) : Type 0 where
   pub accepts : numberOf a ≡ 0
   pub tableId : tableIdOf a ≡ id

@@ -16,7 +16,7 @@ use Rattle.format.specs.Added.{without, firstOfEach, NoneTwice, Distinct
 
 module _ (x : ℕ) where
   -- what is there was there, and is another
-  pub without-from : (z : ℕ) (l : List ℕ) → List·Memᴰ z (without x l) → List·Memᴰ z l × (z ≡ x → ⊥)
+  without-from : (z : ℕ) (l : List ℕ) → List·Memᴰ z (without x l) → List·Memᴰ z l × (z ≡ x → ⊥)
   unfolding without
   without-from z [] m = absurd (List·Memᴰ·not-nil m)
   without-from z (y ∷ l) m = go (eqb x y) refl (without-from z l) m
@@ -28,7 +28,7 @@ module _ (x : ℕ) where
           ⊎-elim (λ q. (List·Memᴰ·head q, λ w. eqb-false x y e (sym w ∙ q))) (λ q. let o = ih q in (List·Memᴰ·tail (o .0), o .1)) (List·Memᴰ·cases-cons m)
 
   -- what was there and is another is there
-  pub without-keeps : (z : ℕ) (l : List ℕ) → (z ≡ x → ⊥) → List·Memᴰ z l → List·Memᴰ z (without x l)
+  without-keeps : (z : ℕ) (l : List ℕ) → (z ≡ x → ⊥) → List·Memᴰ z l → List·Memᴰ z (without x l)
   unfolding without
   without-keeps z [] n m = absurd (List·Memᴰ·not-nil m)
   without-keeps z (y ∷ l) n m = go (eqb x y) refl (without-keeps z l n) (List·Memᴰ·cases-cons m)
