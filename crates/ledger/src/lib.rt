@@ -308,7 +308,7 @@ pub extern "C" fn sat_entry_ids_have(table_id: u8, body: &[u8], out_len: usize) 
     have_of(answer)
 }
 
-// How many ids are left in the buffer.
+// The number of ids that the call above leaves.
 #[no_mangle]
 pub extern "C" fn sat_entry_ids_length(table_id: u8, body: &[u8], out_len: usize) -> usize
     ensures { λ r. ⌜ r ≡ lengthOf (idsAnswer «table_id» (now (body .entry)) «out_len») ⌝ }
