@@ -2,18 +2,18 @@
 -- Assumes nothing.
 use mathlib.Core.Path.{_≡_, refl, sym, ap, _∙_}
 use mathlib.Core.List.{List, []}
-use Prim.Native.Nat.{ℕ, zero, suc, _*_, _-_, _≤_, _<_}
+use Prim.Native.Nat.{ℕ, zero, suc, _*_, _-_, _≤_}
 use native.Mathlib.Omega.{arith}
 use lib.Dec.{leb}
 use lib.ListN.{length, take, drop}
-use borrow.Author.Tests.{le-leb, lt-leb}
+use borrow.Author.Tests.{le-leb}
 use Rattle.format.specs.Digits.{bitsOf, splice}
 use Rattle.format.specs.Refusals.{refuse}
 use Rattle.format.specs.Syntax.{Field, Parse, got, refused, andThen}
 use Rattle.format.specs.Tables.{association}
 use Rattle.format.specs.Body.{readBody}
 use Rattle.format.specs.Whole.{Layout, sole, many, opaque, layout, Table, one, list, asIs, entriesOf, entries, readAs, bodyRead, bodyStarts}
-use Rattle.format.specs.Calls.{answer, left}
+use Rattle.format.specs.Calls.{answer, Fitted, left, Enough}
 use Rattle.format.specs.At.{endOf, seek}
 use Rattle.format.specs.Added.{entryIds, firstOfEach}
 use Rattle.format.specs.declared.Refusal.{Refusal}
@@ -28,7 +28,7 @@ use Rattle.entries.specs.Entries.{IsList, entryIn, leastIn, headIn, entrySyntax
 use Rattle.entries.specs.declared.Walked.the-variants as walked
 use Rattle.entries.proofs.Bodies.{Headed, headed}
 use Rattle.entry_ids.specs.Ids.{idsOf, idsAnswer, idsLeft}
-use Rattle.entry_ids.specs.Steps.{gather, Front, Gathered, fit}
+use Rattle.entry_ids.specs.Steps.{gather, Front, Gathered, Refitted}
 
 module _ (id : ℕ) (b : List ℕ) where
   abbrev n : ℕ
@@ -119,26 +119,37 @@ gathered-list id b q h l e g =
 -- ---- what a caller gets, of the ids that were gathered
 
 module _ {found : Answer} (room : ℕ) where
-  pub fit-no : {f : Refusal} → found ≡ answers.Refused f → found ≡ fit room found
-  unfolding fit
-  fit-no e = rw e
+  pub refit-no : {f : Refusal} → found ≡ answers.Refused f → Refitted found room found
+  unfolding answer
+  refit-no {f} e = record { is = λ id large p h q. go id large p h q }
+    where
+      go : (id large : ℕ) (p : Parse (List ℕ)) → Enough large p → found ≡ answer id large p → found ≡ answer id room p
+      go id large (refused x y z) h q = q
+      go id large (got l rest) h q =
+          let d : answers.Refused f ≡ answers.Done id (length l) = sym e ∙ q ∙ rw (le-leb (length l) large h) in
+          let o : _≡_ {A = ℕ} 0 1 = cc in
+          absurd (omega arith)
 
-  pub fit-short : {t n : ℕ} → found ≡ answers.Done t n → room < n → answers.Refused (refuse 22 n room) ≡ fit room found
-  unfolding fit
-  fit-short {n = n} e h = rw (e, lt-leb n room h)
-
-  pub fit-enough : {t n : ℕ} → found ≡ answers.Done t n → n ≤ room → answers.Done t n ≡ fit room found
-  unfolding fit
-  fit-enough {n = n} e h = rw (e, le-leb n room h)
+  pub refit-yes : {t n : ℕ} {r : Answer} → found ≡ answers.Done t n → Fitted t n room r → Refitted found room r
+  unfolding answer
+  refit-yes {t} {n} {r} e fit = record { is = λ id large p h q. go id large p h (sym e ∙ q) }
+    where
+      go : (id large : ℕ) (p : Parse (List ℕ)) → Enough large p → answers.Done t n ≡ answer id large p → r ≡ answer id room p
+      go id large (refused x y z) h q = let o : _≡_ {A = ℕ} 0 1 = cc in absurd (omega arith)
+      go id large (got l rest) h q =
+          let d : answers.Done t n ≡ answers.Done id (length l) = q ∙ rw (le-leb (length l) large h) in
+          let j : t ≡ id = cc in
+          let k : n ≡ length l = cc in
+          rw j at (fit .is l rest k)
 
 -- the answer for the caller's buffer
-pub fit-answer : {r a : Answer} {kept : List ℕ} (id : ℕ) (b : List ℕ) (room : ℕ) → Gathered id (idsOf id b) r kept → a ≡ fit room r → a ≡ idsAnswer id b room
-unfolding idsAnswer answer fit
-fit-answer {r} {a} {kept} id b room g e = e ∙ ap (fit room) (g .is) ∙ go (idsOf id b) (g .front)
-  where
-    go : (p : Parse (List ℕ)) → Front p kept → fit room (answer id (length kept) p) ≡ answer id room p
-    go (got l rest) f = rw (le-leb (length l) (length kept) (f .0))
-    go (refused x y z) f = refl
+front-enough : (p : Parse (List ℕ)) (kept : List ℕ) → Front p kept → Enough (length kept) p
+front-enough (got l rest) kept f = f .0
+front-enough (refused x y z) kept f = tt
+
+pub fit-answer : {r a : Answer} {kept : List ℕ} (id : ℕ) (b : List ℕ) (room : ℕ) → Gathered id (idsOf id b) r kept → Refitted r room a → a ≡ idsAnswer id b room
+unfolding idsAnswer
+fit-answer {kept = kept} id b room g s = s .is id (length kept) (idsOf id b) (front-enough (idsOf id b) kept (g .front)) (g .is)
 
 -- refused: the buffer is as it was
 pub left-no : {a : Answer} {f : Refusal} (id : ℕ) (b out : List ℕ) → a ≡ idsAnswer id b (length out) → a ≡ answers.Refused f → out ≡ idsLeft id b out

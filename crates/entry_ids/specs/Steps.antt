@@ -4,15 +4,13 @@ use Prim.Native.Nat.{ℕ, zero, suc, _+_, _≤_}
 use mathlib.Core.Path.{_≡_}
 use mathlib.Core.Bool.{Bool, false, cond, _||_}
 use mathlib.Core.List.{List, [], _∷_, _++_, map}
-use lib.Dec.{leb, eqb}
+use lib.Dec.{eqb}
 use lib.ListN.{length, take}
-use Rattle.format.specs.Refusals.{refuse}
 use Rattle.format.specs.Syntax.{Field, Parse, got, refused, andThen}
-use Rattle.format.specs.Calls.{answer}
+use Rattle.format.specs.Calls.{answer, Enough}
 use Rattle.format.specs.ByName.{the}
 use Rattle.format.specs.Added.{idName, firstOfEach}
 use Rattle.format.specs.declared.Answer.{Answer}
-use Rattle.format.specs.declared.Answer.the-variants.{Done, Refused}
 
 -- the bits of an entry's id
 abbrev pub idBits : ℕ → ℕ
@@ -51,7 +49,6 @@ pub record Gathered (id : ℕ) (p : Parse (List ℕ)) (r : Answer) (ids : List �
   pub is : r ≡ answer id (length ids) p
   pub front : Front p ids
 
--- the answer for a buffer that holds so many, given the one for a buffer that has room for all
-unfoldable pub fit : ℕ → Answer → Answer
-fit room (Done id n) = cond (leb n room) (Done id n) (Refused (refuse 22 n room))
-fit room (Refused f) = Refused f
+-- r answers, for a buffer that holds so many, whatever `found` answers for one that is large enough
+pub record Refitted (found : Answer) (room : ℕ) (r : Answer) : Type 0 where
+  pub is : (id large : ℕ) (p : Parse (List ℕ)) → Enough large p → found ≡ answer id large p → r ≡ answer id room p

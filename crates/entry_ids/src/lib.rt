@@ -8,7 +8,7 @@ ghost use Rattle.format.specs.Whole.{layout, entries};
 ghost use Rattle.bits.specs.Read.{Room};
 ghost use Rattle.entries.specs.Entries.{entrySyntax, leastBits, IsList};
 ghost use Rattle.entry_ids.specs.Ids.{idsOf, idsAnswer, idsLeft};
-ghost use Rattle.entry_ids.specs.Steps.{idBits, isIn, Joined, gather, Gathered, fit};
+ghost use Rattle.entry_ids.specs.Steps.{idBits, isIn, Joined, gather, Gathered, Refitted};
 use bits::value_at;
 use entries::Walked;
 use entries::end_refusal;
@@ -20,6 +20,7 @@ use entries::walk_refusal;
 use format::Answer;
 use format::EntryEnd;
 use format::Refusal;
+use format::fitted;
 
 // The most entries that 4,096 bytes hold: an entry takes at least four.
 const ENTRIES_MAX: usize = 1024;
@@ -137,9 +138,9 @@ fn gather_ids(table_id: u8, s: &[u8], ids: &mut [u32]) -> Answer
     list_ids(table_id, s, start, ids)
 }
 
-// The answer for a buffer of so many: 22 where there are more ids.
+// The answer for a buffer of so many, given the one for a buffer that is large enough.
 fn fit(found: Answer, room: usize) -> Answer
-    ensures { λ r. ⌜ r ≡ fit room found ⌝ }
+    ensures { λ r. ⌜ Refitted found room r ⌝ }
 {
     let Answer::Done {
         table_id,
@@ -148,14 +149,7 @@ fn fit(found: Answer, room: usize) -> Answer
     else {
         return found;
     };
-    if room < count {
-        return Answer::Refused(Refusal {
-            number: 22,
-            need: count,
-            have: room,
-        });
-    }
-    found
+    fitted(table_id, count, room)
 }
 
 // What the call below answers with a buffer of so many ids.

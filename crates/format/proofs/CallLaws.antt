@@ -10,11 +10,12 @@ use native.Mathlib.Omega.{arith}
 use lib.Dec.{leb}
 use lib.ListN.{length, drop, length-append, length-drop}
 use lib.Seq.{take-append-seam, drop-append-seam}
-use borrow.Author.Tests.{le-leb, leb-true}
+use borrow.Author.Tests.{le-leb, lt-leb, leb-true}
 use Rattle.format.specs.Digits.{Below, splice}
+use Rattle.format.specs.Refusals.{refuse}
 use Rattle.format.specs.Syntax.{Parse, got, refused, andThen}
 use Rattle.format.specs.Whole.{Table, bodyRead, Accepted, plainOf, ledgerOf, idOf, ledgerRead}
-use Rattle.format.specs.Calls.{numberOf, tableIdOf, lengthOf, answer, left, resultIn, Enough, filed, plained, restored, writeAnswer, writeLeft, readAnswer, readLeft, Wrote, Gave}
+use Rattle.format.specs.Calls.{numberOf, tableIdOf, lengthOf, answer, Fitted, left, resultIn, Enough, filed, plained, restored, writeAnswer, writeLeft, readAnswer, readLeft, Wrote, Gave}
 use Rattle.format.specs.declared.Refusal.{Refusal}
 use Rattle.format.specs.declared.Answer.{Answer}
 use Rattle.format.specs.declared.Answer.the-variants.{Done, Refused}
@@ -33,6 +34,15 @@ left-length out (got xs rest) = go (leb (length xs) (length out)) refl
     go : (t : Bool) → leb (length xs) (length out) ≡ t → length (cond t (xs ++ drop (0 + length xs) out) out) ≡ length out
     go true e = length-append xs (drop (0 + length xs) out) ∙ omega (arith, length-drop (0 + length xs) out, leb-true (length xs) (length out) e)
     go false e = refl
+
+-- the answer by a result's length alone
+pub fits : {id n room : ℕ} → n ≤ room → Fitted id n room (Done id n)
+unfolding answer
+fits {id} {n} {room} h = record { is = λ xs rest e. rw (← e, le-leb n room h) }
+
+pub over : {id n room : ℕ} → room < n → Fitted id n room (Refused (refuse 22 n room))
+unfolding answer
+over {id} {n} {room} h = record { is = λ xs rest e. rw (← e, lt-leb n room h) }
 
 -- what an answer tells: a result, its length, and room for it
 pub answer-done : {t n : ℕ} (id room : ℕ) (p : Parse (List ℕ)) → answer id room p ≡ Done t n

@@ -42,6 +42,10 @@ unfoldable pub answer : ℕ → ℕ → Parse (List ℕ) → Answer
 answer id room (got xs rest) = cond (leb (length xs) room) (Done id (length xs)) (Refused (refuse 22 (length xs) room))
 answer id room (refused number needed had) = Refused (refuse number needed had)
 
+-- r answers every result of this length
+pub record Fitted (id size room : ℕ) (r : Answer) : Type 0 where
+  pub is : (xs rest : List ℕ) → size ≡ length xs → r ≡ answer id room (got xs rest)
+
 -- the buffer afterwards: the result and behind it the old values; all old values after a refusal
 unfoldable pub left : List ℕ → Parse (List ℕ) → List ℕ
 left out (got xs rest) = cond (leb (length xs) (length out)) (splice out 0 xs) out

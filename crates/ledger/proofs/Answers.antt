@@ -1,17 +1,16 @@
 -- The answer to a buffer's length, by the result's length alone.
 -- Assumes nothing.
-use Prim.Native.Nat.{ℕ, _≤_, _<_}
+use Prim.Native.Nat.{ℕ}
 use mathlib.Core.Path.{_≡_, sym, ap, _∙_}
 use mathlib.Core.List.{List}
 use native.Mathlib.Omega.{arith}
 use lib.ListN.{length}
-use borrow.Author.Tests.{le-leb, lt-leb}
 use Rattle.format.specs.Refusals.{refuse}
 use Rattle.format.specs.Syntax.{Parse, got, refused}
 use Rattle.format.specs.Whole.{idOf}
-use Rattle.format.specs.Calls.{answer, filed, plained, writeAnswer, restored, readAnswer}
+use Rattle.format.specs.Calls.{answer, Fitted, filed, plained, writeAnswer, restored, readAnswer}
 use Rattle.format.specs.declared.Answer.{Answer}
-use Rattle.format.specs.declared.Answer.the-variants.{Done, Refused}
+use Rattle.format.specs.declared.Answer.the-variants.{Refused}
 use Rattle.format.specs.declared.Refusal.{Refusal}
 use Rattle.ledger_writer.specs.Written.{sizeIn, sizeRefusal, sizeAnswer}
 use Rattle.ledger_writer.specs.declared.LedgerSize.{LedgerSize}
@@ -20,17 +19,7 @@ use Rattle.ledger_reader.specs.Measured.{measured, measureOf, measureRefusal}
 use Rattle.ledger_reader.specs.declared.Measure.{Measure}
 use Rattle.ledger_reader.specs.declared.Measure.the-variants as measure
 use Rattle.plain_body.specs.Plain.{plainAnswer, plainMeasure}
-use Rattle.ledger.specs.Sizes.{Fitted, MeasureFitted}
-
--- ---- a result of n bytes
-
-pub fits : {id n room : ℕ} → n ≤ room → Fitted id n room (Done id n)
-unfolding answer
-fits {id} {n} {room} h = record { is = λ xs rest e. rw (← e, le-leb n room h) }
-
-pub over : {id n room : ℕ} → room < n → Fitted id n room (Refused (refuse 22 n room))
-unfolding answer
-over {id} {n} {room} h = record { is = λ xs rest e. rw (← e, lt-leb n room h) }
+use Rattle.ledger.specs.Sizes.{MeasureFitted}
 
 -- ---- a size, for the writer
 

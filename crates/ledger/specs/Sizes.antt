@@ -1,18 +1,13 @@
--- The answer to a buffer's length, where the result's length alone is known.
+-- The answer to a buffer's length, where the result's measure alone is known.
 -- Assumes nothing: these are definitions.
 use Prim.Native.Nat.{ℕ}
 use mathlib.Core.Path.{_≡_}
 use mathlib.Core.List.{List}
-use lib.ListN.{length}
-use Rattle.format.specs.Syntax.{Parse, got}
+use Rattle.format.specs.Syntax.{Parse}
 use Rattle.format.specs.Calls.{answer}
 use Rattle.format.specs.declared.Answer.{Answer}
 use Rattle.ledger_reader.specs.Measured.{measured}
 use Rattle.ledger_reader.specs.declared.Measure.{Measure}
-
--- r answers every result of so many bytes
-pub record Fitted (id size room : ℕ) (r : Answer) : Type 0 where
-  pub is : (xs rest : List ℕ) → size ≡ length xs → r ≡ answer id room (got xs rest)
 
 -- r answers whatever has this measure
 pub record MeasureFitted (m : Measure) (room : ℕ) (r : Answer) : Type 0 where

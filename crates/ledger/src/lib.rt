@@ -6,11 +6,11 @@ ghost use lib.ListN.{length};
 ghost use Rattle.format.specs.Calls.{numberOf, needOf, haveOf, tableIdOf, lengthOf, writeAnswer, writeLeft, readAnswer, readLeft};
 ghost use Rattle.plain_body.specs.Plain.{plainAnswer, plainLeft};
 ghost use Rattle.entry_ids.specs.Ids.{idsAnswer, idsLeft};
-ghost use Rattle.ledger.specs.Sizes.{Fitted, MeasureFitted};
+ghost use Rattle.ledger.specs.Sizes.{MeasureFitted};
 use entry_ids::entry_ids;
 use entry_ids::entry_ids_answer;
 use format::Answer;
-use format::Refusal;
+use format::fitted;
 use ledger_reader::Measure;
 use ledger_reader::ledger_measure;
 use ledger_reader::ledger_read;
@@ -84,23 +84,6 @@ fn length_of(answer: Answer) -> usize
             length,
         } => length,
         Answer::Refused(_) => 0usize,
-    }
-}
-
-// The answer to a result of so many bytes in a buffer of so many: 22 where it is longer.
-fn fitted(table_id: u8, size: usize, room: usize) -> Answer
-    ensures { λ r. ⌜ Fitted «table_id» size room r ⌝ }
-{
-    if room < size {
-        return Answer::Refused(Refusal {
-            number: 22,
-            need: size,
-            have: room,
-        });
-    }
-    Answer::Done {
-        table_id,
-        length: size,
     }
 }
 

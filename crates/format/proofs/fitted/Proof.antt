@@ -1,8 +1,8 @@
 -- `fitted`: 22 where the result is longer than the buffer, or its length.
 -- Assumes nothing.
-use Rattle.ledger.proofs.Answers.{fits, over}
-use Rattle.ledger.proofs.fitted.Statement.{statement}
-use Rattle.ledger.proofs.fitted.Tie as tie
+use Rattle.format.proofs.CallLaws.{fits, over}
+use Rattle.format.proofs.fitted.Statement.{statement}
+use Rattle.format.proofs.fitted.Tie as tie
 
 returns : tie.Need-returns
 returns c = over (c .if1 .taken)
