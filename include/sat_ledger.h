@@ -1,4 +1,4 @@
-/* Satellite access table bodies, their plain bodies, their ledgers, and the ids of their entries.
+/* Satellite access table bodies, their plain bodies, their ledgers, the ids of their entries, and the order of clocks.
  *
  * sat_ledger_write files a body: it stores the ledger at the start of `out`. sat_ledger_read takes a ledger back to
  * the plain body. sat_plain_body gives a body's plain body without its ledger. sat_entry_ids lists the ids of a body's
@@ -52,6 +52,13 @@
  *
  * sat_ledger_write, sat_plain_body and sat_entry_ids refuse by 1 to 22, the same bodies by the same numbers but for
  * 22; sat_ledger_read refuses by 22 to 26.
+ *
+ * sat_clock_order refuses nothing. It tells how a clock reading, base and extension, stands to another: 0 the same
+ * instant, 1 earlier, 2 later, 3 opposite. A reading has 300 * base + ext ticks, of the low 33 bits of the base and the
+ * low 9 of the extension; the clock turns over after 300 * 2^33 ticks, and full turns do not count. The first reading is
+ * earlier if going forward from it to the other takes at least 1 tick and fewer than half a turn, later if the other is
+ * earlier, opposite if they are exactly half a turn apart. This is no order to sort by: of three readings each may be
+ * earlier than the next, all round.
  */
 #ifndef SAT_LEDGER_H
 #define SAT_LEDGER_H
@@ -62,6 +69,12 @@
 #define SAT_BODY_MAX 4096
 #define SAT_LEDGER_MAX 8198
 #define SAT_ENTRY_IDS_MAX 1024
+
+/* what sat_clock_order returns */
+#define SAT_CLOCK_SAME 0
+#define SAT_CLOCK_EARLIER 1
+#define SAT_CLOCK_LATER 2
+#define SAT_CLOCK_OPPOSITE 3
 
 #ifdef __cplusplus
 extern "C" {
@@ -89,6 +102,8 @@ uint32_t sat_entry_ids(uint8_t table_id, const uint8_t *body, size_t body_len, u
 size_t sat_entry_ids_need(uint8_t table_id, const uint8_t *body, size_t body_len, size_t out_len);
 size_t sat_entry_ids_have(uint8_t table_id, const uint8_t *body, size_t body_len, size_t out_len);
 size_t sat_entry_ids_length(uint8_t table_id, const uint8_t *body, size_t body_len, size_t out_len);
+
+uint32_t sat_clock_order(uint64_t base, uint16_t ext, uint64_t other_base, uint16_t other_ext);
 
 #ifdef __cplusplus
 }

@@ -1,12 +1,15 @@
-// The ledger's writer and reader, the plain body and the entries' ids, for C. The call that fills a buffer returns 0 or
-// the refusal's number; the further calls take the same bytes and the buffer's length, write nothing, and give the
-// answer's other numbers, 0 where there is none.
+// The ledger's writer and reader, the plain body, the entries' ids and the order of clocks, for C. The call that fills a
+// buffer returns 0 or the refusal's number; the further calls take the same bytes and the buffer's length, write
+// nothing, and give the answer's other numbers, 0 where there is none. The order of clocks refuses nothing.
 ghost use mathlib.Core.Path.{_≡_};
 ghost use lib.ListN.{length};
 ghost use Rattle.format.specs.Calls.{numberOf, needOf, haveOf, tableIdOf, lengthOf, writeAnswer, writeLeft, readAnswer, readLeft};
 ghost use Rattle.plain_body.specs.Plain.{plainAnswer, plainLeft};
 ghost use Rattle.entry_ids.specs.Ids.{idsAnswer, idsLeft};
+ghost use Rattle.clock_order.specs.Order.{clockOrder, orderNumber};
 ghost use Rattle.ledger.specs.Sizes.{MeasureFitted};
+use clock_order::ClockOrder;
+use clock_order::clock_order;
 use entry_ids::entry_ids;
 use entry_ids::entry_ids_answer;
 use format::Answer;
@@ -298,4 +301,18 @@ pub extern "C" fn sat_entry_ids_length(table_id: u8, body: &[u8], out_len: usize
 {
     let answer = entry_ids_answer(table_id, body, out_len);
     length_of(answer)
+}
+
+// The first clock reading against the second: 0 the same instant, 1 earlier, 2 later, 3 opposite.
+#[no_mangle]
+pub extern "C" fn sat_clock_order(base: u64, ext: u16, other_base: u64, other_ext: u16) -> u32
+    ensures { λ r. ⌜ r ≡ orderNumber (clockOrder base ext «other_base» «other_ext») ⌝ }
+{
+    let order = clock_order(base, ext, other_base, other_ext);
+    match order {
+        ClockOrder::Same => 0,
+        ClockOrder::Earlier => 1,
+        ClockOrder::Later => 2,
+        ClockOrder::Opposite => 3,
+    }
 }
