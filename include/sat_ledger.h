@@ -56,9 +56,9 @@
  * sat_clock_order refuses nothing. It tells how a clock reading, base and extension, stands to another: 0 the same
  * instant, 1 earlier, 2 later, 3 opposite. A reading has 300 * base + ext ticks, of the low 33 bits of the base and the
  * low 9 of the extension; the clock turns over after 300 * 2^33 ticks, and full turns do not count. The first reading
- * is earlier if going forward from it to the other takes at least 1 tick and fewer than half a turn, later if the other
- * one is earlier, opposite if they are exactly half a turn apart. This is no order to sort by: of three readings each
- * may be earlier than the next, all round.
+ * is earlier if the other follows it by 1 tick or more, but by less than half a turn; later if it follows the other so;
+ * opposite if just half a turn lies between them. This is no order to sort by: of three readings each may be earlier
+ * than the next, all round.
  */
 #ifndef SAT_LEDGER_H
 #define SAT_LEDGER_H

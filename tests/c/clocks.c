@@ -7,9 +7,12 @@
 #include <stdlib.h>
 #include "sat_ledger.h"
 
+_Static_assert(SAT_CLOCK_SAME == 0 && SAT_CLOCK_EARLIER == 1, "numbers of S-14's answers");
+_Static_assert(SAT_CLOCK_LATER == 2 && SAT_CLOCK_OPPOSITE == 3, "numbers of S-14's answers");
+
 #define TURN 2576980377600u
 
-static unsigned long line, calls, told[4];
+static unsigned long line, calls, counts[4];
 
 struct reading {
     uint64_t base;
@@ -55,26 +58,20 @@ static void try_pair(struct reading a, struct reading b, uint32_t answer)
 
 int main(void)
 {
-    static const char *names[] = {"same", "earlier", "later", "opposite"};
     struct reading a, b;
     uint32_t answer;
     const char *form = "%" SCNu64 "%" SCNu16 "%" SCNu64 "%" SCNu16 "%" SCNu32;
     int n;
     while ((n = scanf(form, &a.base, &a.ext, &b.base, &b.ext, &answer)) == 5 && answer < 4) {
         line++;
-        told[answer]++;
+        counts[answer]++;
         try_pair(a, b, answer);
     }
-    if (n != EOF) {
+    if (n != EOF || line == 0) {
         printf("line %lu is no case\n", line + 1);
         return 1;
     }
-    for (int i = 0; i < 4; i++)
-        if (told[i] == 0) {
-            printf("no case is %s\n", names[i]);
-            return 1;
-        }
     printf("order of clocks: %lu pairs (%lu same, %lu earlier, %lu later, %lu opposite), %lu calls, 0 differences\n",
-           line, told[0], told[1], told[2], told[3], calls);
+           line, counts[0], counts[1], counts[2], counts[3], calls);
     return 0;
 }

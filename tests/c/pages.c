@@ -42,7 +42,7 @@ static size_t unhex(const char *s, uint8_t *to)
     return n;
 }
 
-/* ---- the four calls, each with its further calls, under one form; a ledger names its table id itself */
+/* ---- the four calls that fill a buffer, each with its further calls, under one form; a ledger names its id itself */
 
 static uint32_t read_(uint8_t id, const uint8_t *in, size_t n, uint8_t *out, size_t room)
 {

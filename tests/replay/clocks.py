@@ -1,5 +1,5 @@
 #!/usr/bin/env python3
-"""Orders two clock readings by request S-14 and by document 01's reduction of base and ext alone.
+"""Orders two clock readings by request S-14 alone, after document 01's reduction of base and ext.
 
 Use: clocks.py --make SEED COUNT   COUNT different cases, with this reading's answers
      clocks.py --check FILE        the cases of FILE, each answer held to two computations
@@ -8,6 +8,7 @@ A case is a line of five decimal numbers: base, ext, the other base, the other e
 the first reading against the other: 0 same, 1 earlier, 2 later, 3 opposite. Bases are of 64 bits and
 extensions of 16, as a caller in C may give them. The first computation counts ticks and makes the
 request's own tests; the second counts no ticks, and says which half of the circle a reading lies in.
+Where both readings are shifted, the second starts from ticks too.
 """
 
 import random

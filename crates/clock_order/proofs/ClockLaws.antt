@@ -21,9 +21,9 @@ pub forward-only : (a b d : ℕ) → d < turn → (a + d) % turn ≡ b % turn �
 unfolding forward
 forward-only a b d h e = omega arith
 
--- ---- back again, and no way at all
+-- ---- back again, and a way of 0 ticks
 
--- there and back is a full turn, unless there is nowhere to go
+-- there and back is a full turn, unless both are the same instant
 pub forward-back : (a b : ℕ) → 0 < forward a b → forward a b + forward b a ≡ turn
 unfolding forward
 forward-back a b h = omega arith

@@ -14,7 +14,7 @@ use Rattle.clock_order.specs.declared.ClockOrder.the-variants.{Earlier, 
 use Rattle.clock_order.proofs.ClockLaws.{forward-shift}
 use Rattle.clock_order.proofs.Ways.{By, some-by, by-exchanged, by-means, means-by, by-order}
 
--- the answer's own way
+-- what the answer says holds of the way forward
 order-by : (a b : ℕ) → By (orderOf a b) (forward a b)
 order-by a b = let s = some-by (forward a b) in rw (by-order (s .0) a b (s .1)) at (s .1)
 

@@ -13,6 +13,7 @@ use Rattle.clock_order.specs.declared.ClockOrder.{ClockOrder}
 use Rattle.clock_order.specs.declared.ClockOrder.the-variants.{Earlier, Same, Later, Opposite}
 use Rattle.clock_order.proofs.ClockLaws.{forward-below, forward-back, forward-none, none-forward}
 
+-- what an answer says of the ticks from the first reading forward to the second
 abbrev pub By : ClockOrder → ℕ → Type 0
 By Earlier w = (0 < w) × (w < half)
 By Same w = w ≡ 0
@@ -35,7 +36,7 @@ some-by w = none (eqb w 0) refl
     none true e = (Same, eqb-true w 0 e)
     none false e = less (ltb w half) refl (eqb-false w 0 e)
 
--- ---- the request's test, by the way
+-- ---- the request's test, in terms of the way forward
 
 earlier-by : (a b : ℕ) → earlier a b ≡ true → By Earlier (forward a b)
 unfolding earlier
@@ -55,7 +56,7 @@ not-earlier a b n = go (earlier a b) refl
     go true e = absurd (n (earlier-by a b e))
     go false e = refl
 
--- ---- each answer says this of the way, and what it says is this
+-- ---- the way back
 
 pub by-exchanged : (o : ClockOrder) (a b : ℕ) → By o (forward a b) → By (exchanged o) (forward b a)
 unfolding exchanged
@@ -66,6 +67,8 @@ by-exchanged Later a b h =
     let l = forward-below a b in
     (omega arith, omega arith)
 by-exchanged Opposite a b h = let k = forward-back a b (omega arith) in omega arith
+
+-- ---- `By` and `Means` say the same
 
 pub by-means : (o : ClockOrder) (a b : ℕ) → By o (forward a b) → Means o a b
 unfolding opposite same exchanged

@@ -12,7 +12,7 @@ use Rattle.clock_order.specs.declared.ClockOrder.the-variants.{Earlier, 
 
 -- ---- the request's tests, of the ticks of the first reading and of the second
 
--- "earlier": going forward from the first to the second takes at least 1 tick and fewer than half a turn
+-- "earlier": the way forward from the first to the second is "at least 1 tick and fewer than half a turn"
 unfoldable pub earlier : ℕ → ℕ → Bool
 earlier a b = leb 1 (forward a b) && ltb (forward a b) half
 
@@ -57,7 +57,8 @@ exchanged Same = Same
 exchanged Later = Earlier
 exchanged Opposite = Opposite
 
--- "a shift of both readings' ticks by one amount": ticks shifted by a whole amount, forward or back, as remainders
+-- "a shift .. by one amount": the second ticks are the first ones shifted by a whole number, up to full turns;
+-- `negsuc s` is a shift back by s + 1
 abbrev pub Shifted : ℤ → ℕ → ℕ → Type 0
 Shifted (pos s) a b = (a + s) % turn ≡ b % turn
 Shifted (negsuc s) a b = a % turn ≡ (b + suc s) % turn

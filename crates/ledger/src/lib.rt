@@ -1,5 +1,5 @@
-// The ledger's writer and reader, the plain body, the entries' ids and the order of clocks, for C. The call that fills a
-// buffer returns 0 or the refusal's number; the further calls take the same bytes and the buffer's length, write
+// The ledger's writer and reader, the plain body, the entries' ids and the order of clocks, for C. The call that fills
+// a buffer returns 0 or the refusal's number; the further calls take the same bytes and the buffer's length, write
 // nothing, and give the answer's other numbers, 0 where there is none. The order of clocks refuses nothing.
 ghost use mathlib.Core.Path.{_≡_};
 ghost use lib.ListN.{length};

@@ -1,4 +1,4 @@
--- `clock_order`: each of the four answers, by the way forward.
+-- `clock_order`: each of the four answers, from the way forward.
 -- Assumes nothing.
 use mathlib.Core.Path.{_≡_}
 use native.Mathlib.Omega.{arith}
@@ -19,7 +19,7 @@ ticks-of-requires-2 c κs = search needs
 forward-ticks-requires : tie.Need-forward-ticks-requires
 forward-ticks-requires c κs = search needs
 
--- an answer, by the way that was found
+-- an answer, from the way that was found
 told : (o : ClockOrder) (w : tie.After-forward-ticks) → By o (w .forward-ticks .result)
     → let a = w .before .before .before .args in o ≡ clockOrder (a .base) (a .ext) (a .other-base) (a .other-ext)
 told o w h =
