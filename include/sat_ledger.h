@@ -1,10 +1,17 @@
-/* Satellite access table bodies, their plain bodies, their ledgers, the ids of their entries, and the order of clocks.
+/* Satellite access table bodies, their plain and kept bodies, their ledgers, the ids of their entries, and the order of
+ * clocks.
  *
- * sat_ledger_write files a body: it stores the ledger at the start of `out`. sat_ledger_read takes a ledger back to
- * the plain body. sat_plain_body gives a body's plain body without its ledger. sat_entry_ids lists the ids of a body's
- * entries, each different one once, in the order of their first entries; bodies of table id 2 and of ids from 5 on
- * have none. All four return 0, or the number of the refusal. On 0 what stands in `out` behind the result keeps its
- * value; after a refusal all of it does.
+ * sat_ledger_write files a body: it stores the ledger, in edition 1, at the start of `out`. sat_ledger_write_edition_2
+ * does so in edition 2, which also keeps each plan's length and filler as they came (table id 3; under other ids the
+ * editions differ in their version byte alone). sat_ledger_read takes a ledger of either edition back to a body: the
+ * plain body in edition 1, the kept body in edition 2. sat_plain_body and sat_kept_body give these of a body without
+ * its ledger. sat_entry_ids lists the ids of a body's entries, each different one once, in the order of their first
+ * entries; bodies of table id 2 and of ids from 5 on have none. All six return 0, or the number of the refusal. On 0
+ * what stands in `out` behind the result keeps its value; after a refusal all of it does.
+ *
+ * The plain body has every field as it was read, plan lengths exact, padding zero, and nothing behind a plan's fields
+ * or the last entry. The kept body has plan lengths and filler as they came: filler is what stands between a plan's
+ * fields and padding and its end, or the body's end if that comes first.
  *
  * The further calls are given the same bytes and the length of the buffer, not the buffer. They write nothing, keep
  * nothing between calls, and may be made before, after or without the call that fills the buffer:
@@ -12,9 +19,10 @@
  *   _length, _table_id the length of the result and its table id; 0 after a refusal
  * Lengths of `out` and of results are in its units: bytes, and for sat_entry_ids ids of 32 bits.
  *
- * Buffers that always suffice: 6 + 2 * body_len bytes for a ledger, so never more than SAT_LEDGER_MAX; for a plain body
- * body_len bytes, or SAT_BODY_MAX where it comes from a ledger; body_len / 4 ids, so never more than SAT_ENTRY_IDS_MAX.
- * The sat_plain_body calls take some 10,000 bytes of stack, the sat_entry_ids calls 5,000, the others 2,000.
+ * Buffers that always suffice: 6 + 2 * body_len bytes for a ledger in either edition, so never more than
+ * SAT_LEDGER_MAX; for a plain or kept body body_len bytes, or SAT_BODY_MAX where it comes from a ledger; body_len / 4
+ * ids, so never more than SAT_ENTRY_IDS_MAX. The sat_plain_body and sat_kept_body calls take some 10,000 bytes of
+ * stack, the sat_entry_ids calls 5,000, the others 2,000.
  *
  * Pointers: (NULL, 0) is nothing, an empty body, an empty ledger or no buffer, and is answered as any other pointer
  * with length 0; tests/c/pages.c tries it for each pointer of each call. With a length above 0 a pointer leads to that
@@ -45,13 +53,15 @@
  * 22      the result is longer than the buffer                        its length, the buffer's, in the buffer's units
  * 23      ledger: too short, wrong length in front, a field missing,  byte place, 0
  *         or bytes over
- * 24      ledger: the version is not 1                                2, 0
+ * 24      ledger: the version is neither 1 nor 2                      2, 0
  * 25      ledger: a value is too wide for its field, a flag is not    byte place, 0
  *         0 or 1, or an unused slot bit is set
- * 26      ledger: its plain body has more than 4,096 bytes            that length, 4096
+ * 26      ledger: its plain or kept body has more than 4,096 bytes    that length, 4096
+ * 28      ledger of edition 2: no body has a plan with this length,   byte place behind the filler's count, 0
+ *         these raw bytes and this filler
  *
- * sat_ledger_write, sat_plain_body and sat_entry_ids refuse by 1 to 22, the same bodies by the same numbers but for
- * 22; sat_ledger_read refuses by 22 to 26.
+ * The calls that take a body refuse by 1 to 22, the same bodies by the same numbers but for 22; sat_ledger_read refuses
+ * by 22 to 26 and 28. A refusal by 22 comes last.
  *
  * sat_clock_order refuses nothing. It tells how a clock reading, base and extension, stands to another: 0 the same
  * instant, 1 earlier, 2 later, 3 opposite. A reading has 300 * base + ext ticks, of the low 33 bits of the base and the
@@ -86,6 +96,13 @@ size_t sat_ledger_write_have(uint8_t table_id, const uint8_t *body, size_t body_
 size_t sat_ledger_write_length(uint8_t table_id, const uint8_t *body, size_t body_len, size_t out_len);
 uint8_t sat_ledger_write_table_id(uint8_t table_id, const uint8_t *body, size_t body_len, size_t out_len);
 
+uint32_t sat_ledger_write_edition_2(uint8_t table_id, const uint8_t *body, size_t body_len, uint8_t *out,
+                                    size_t out_len);
+size_t sat_ledger_write_edition_2_need(uint8_t table_id, const uint8_t *body, size_t body_len, size_t out_len);
+size_t sat_ledger_write_edition_2_have(uint8_t table_id, const uint8_t *body, size_t body_len, size_t out_len);
+size_t sat_ledger_write_edition_2_length(uint8_t table_id, const uint8_t *body, size_t body_len, size_t out_len);
+uint8_t sat_ledger_write_edition_2_table_id(uint8_t table_id, const uint8_t *body, size_t body_len, size_t out_len);
+
 uint32_t sat_ledger_read(const uint8_t *ledger, size_t ledger_len, uint8_t *out, size_t out_len);
 size_t sat_ledger_read_need(const uint8_t *ledger, size_t ledger_len, size_t out_len);
 size_t sat_ledger_read_have(const uint8_t *ledger, size_t ledger_len, size_t out_len);
@@ -97,6 +114,12 @@ size_t sat_plain_body_need(uint8_t table_id, const uint8_t *body, size_t body_le
 size_t sat_plain_body_have(uint8_t table_id, const uint8_t *body, size_t body_len, size_t out_len);
 size_t sat_plain_body_length(uint8_t table_id, const uint8_t *body, size_t body_len, size_t out_len);
 uint8_t sat_plain_body_table_id(uint8_t table_id, const uint8_t *body, size_t body_len, size_t out_len);
+
+uint32_t sat_kept_body(uint8_t table_id, const uint8_t *body, size_t body_len, uint8_t *out, size_t out_len);
+size_t sat_kept_body_need(uint8_t table_id, const uint8_t *body, size_t body_len, size_t out_len);
+size_t sat_kept_body_have(uint8_t table_id, const uint8_t *body, size_t body_len, size_t out_len);
+size_t sat_kept_body_length(uint8_t table_id, const uint8_t *body, size_t body_len, size_t out_len);
+uint8_t sat_kept_body_table_id(uint8_t table_id, const uint8_t *body, size_t body_len, size_t out_len);
 
 uint32_t sat_entry_ids(uint8_t table_id, const uint8_t *body, size_t body_len, uint32_t *out, size_t out_len);
 size_t sat_entry_ids_need(uint8_t table_id, const uint8_t *body, size_t body_len, size_t out_len);

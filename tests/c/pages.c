@@ -1,17 +1,14 @@
-/* Buffers against unreadable pages: pages BODIES LEDGERS PLAINS IDS, four files with one case a line. BODIES and
- * LEDGERS are the replay list with the Rust's answers, PLAINS what tests/replay/decode.py makes of the ledgers, IDS
- * what tests/replay/ids.py lists of the bodies; none comes from the code under test. A byte touched outside a buffer
- * ends the program. Every tenth case and the first 60 are tried.
+/* Buffers against unreadable pages: pages BODIES LEDGERS PLAINS IDS CASES_2 LEDGERS_2, files with one case a line.
+ * BODIES and LEDGERS are the replay list with the Rust's answers, PLAINS what tests/replay/decode.py makes of the
+ * ledgers, IDS what tests/replay/ids.py lists of the bodies; every tenth case and the first 60 are tried. CASES_2 and
+ * LEDGERS_2 are tests/replay/edition_2.txt and damaged_2.txt, tried whole. None comes from the code under test. A byte
+ * touched outside a buffer ends the program.
  */
 #define _DEFAULT_SOURCE
+#include <ctype.h>
 #include <inttypes.h>
-#include <stdio.h>
-#include <stdlib.h>
-#include <string.h>
-#include <sys/mman.h>
-#include "sat_ledger.h"
+#include "calls.h"
 
-#define SPAN 16384
 static unsigned long checks, line;
 static const char *about = "";
 
@@ -24,81 +21,15 @@ static void check(int holds, const char *what)
     }
 }
 
-/* SPAN bytes between two unreadable parts */
-static uint8_t *fenced(void)
-{
-    uint8_t *p = mmap(NULL, 3 * SPAN, PROT_NONE, MAP_PRIVATE | MAP_ANONYMOUS, -1, 0);
-    if (p == MAP_FAILED || mprotect(p + SPAN, SPAN, PROT_READ | PROT_WRITE) != 0)
-        exit(2);
-    return p + SPAN;
-}
-
+/* the bytes of a word of hexadecimal digits */
 static size_t unhex(const char *s, uint8_t *to)
 {
     size_t n = 0;
     unsigned v;
-    while (sscanf(s + 2 * n, "%2x", &v) == 1)
+    while (isxdigit((unsigned char)s[2 * n]) && sscanf(s + 2 * n, "%2x", &v) == 1)
         to[n++] = (uint8_t)v;
     return n;
 }
-
-/* ---- the four calls that fill a buffer, each with its further calls, under one form; a ledger names its id itself */
-
-static uint32_t read_(uint8_t id, const uint8_t *in, size_t n, uint8_t *out, size_t room)
-{
-    (void)id;
-    return sat_ledger_read(in, n, out, room);
-}
-
-static size_t read_need(uint8_t id, const uint8_t *in, size_t n, size_t room)
-{
-    (void)id;
-    return sat_ledger_read_need(in, n, room);
-}
-
-static size_t read_have(uint8_t id, const uint8_t *in, size_t n, size_t room)
-{
-    (void)id;
-    return sat_ledger_read_have(in, n, room);
-}
-
-static size_t read_length(uint8_t id, const uint8_t *in, size_t n, size_t room)
-{
-    (void)id;
-    return sat_ledger_read_length(in, n, room);
-}
-
-static uint8_t read_table_id(uint8_t id, const uint8_t *in, size_t n, size_t room)
-{
-    (void)id;
-    return sat_ledger_read_table_id(in, n, room);
-}
-
-/* the ids are 32-bit units; 22, and the lengths, count these */
-static uint32_t ids(uint8_t id, const uint8_t *in, size_t n, uint8_t *out, size_t room)
-{
-    return sat_entry_ids(id, in, n, (uint32_t *)(void *)out, room);
-}
-
-/* a unit's bytes, and a room in units that holds every result; table_id is NULL where there is no such call */
-typedef struct {
-    const char *name;
-    size_t unit, most;
-    uint32_t (*fill)(uint8_t, const uint8_t *, size_t, uint8_t *, size_t);
-    size_t (*need)(uint8_t, const uint8_t *, size_t, size_t);
-    size_t (*have)(uint8_t, const uint8_t *, size_t, size_t);
-    size_t (*length)(uint8_t, const uint8_t *, size_t, size_t);
-    uint8_t (*table_id)(uint8_t, const uint8_t *, size_t, size_t);
-} Call;
-
-static const Call
-    WRITE = {"sat_ledger_write", 1, SAT_LEDGER_MAX, sat_ledger_write, sat_ledger_write_need, sat_ledger_write_have,
-             sat_ledger_write_length, sat_ledger_write_table_id},
-    READ = {"sat_ledger_read", 1, SAT_LEDGER_MAX, read_, read_need, read_have, read_length, read_table_id},
-    PLAIN = {"sat_plain_body", 1, SAT_LEDGER_MAX, sat_plain_body, sat_plain_body_need, sat_plain_body_have,
-             sat_plain_body_length, sat_plain_body_table_id},
-    IDS = {"sat_entry_ids", sizeof(uint32_t), SPAN / sizeof(uint32_t), ids, sat_entry_ids_need, sat_entry_ids_have,
-           sat_entry_ids_length, NULL};
 
 /* ---- what is wanted of a call: the result's bytes and its size in units, or a refusal where bytes is NULL */
 
@@ -187,6 +118,13 @@ static void nothings(void)
     nothing(&WRITE, 3, NULL, 0, result(empty3, 6));
     nothing(&WRITE, 4, NULL, 0, refusal(2, 1, 0));
     nothing(&WRITE, 5, NULL, 0, result(raw5, 4));
+    nothing(&WRITE_2, 0, NULL, 0, result((const uint8_t[]){0, 4, 2, 0, 0, 0}, 6));
+    nothing(&WRITE_2, 2, NULL, 0, refusal(2, 1, 0));
+    nothing(&WRITE_2, 3, NULL, 0, result((const uint8_t[]){0, 4, 2, 3, 0, 0}, 6));
+    nothing(&WRITE_2, 5, NULL, 0, result((const uint8_t[]){0, 2, 2, 5}, 4));
+    nothing(&KEPT, 3, NULL, 0, result(seven, 0));
+    nothing(&KEPT, 4, NULL, 0, refusal(2, 1, 0));
+    nothing(&KEPT, 9, seven, 1, result(seven, 1));
     nothing(&PLAIN, 0, NULL, 0, result(seven, 0));
     nothing(&PLAIN, 2, NULL, 0, refusal(2, 1, 0));
     nothing(&PLAIN, 5, NULL, 0, result(seven, 0));
@@ -203,6 +141,7 @@ static void nothings(void)
     nothing(&IDS, 9, seven, 1, result(id7, 0));
     nothing(&READ, 0, empty0, 6, result(seven, 0));
     nothing(&READ, 5, raw5, 4, result(seven, 0));
+    nothing(&READ, 3, (const uint8_t[]){0, 4, 2, 3, 0, 0}, 6, result(seven, 0));
 }
 
 /* ---- ledgers that no body has; the places are counted on document 01's widths */
@@ -360,19 +299,73 @@ static void stored(const char *body_line, const char *ledger_line, const char *p
     rooms(&READ, id, ledger, m, refusal(24, 2, 0));
 }
 
+/* ---- edition 2: answers stand behind a space, a refusal with commas, `-` for no bytes */
+
+static Want answer_of(const char *text, uint8_t *bytes)
+{
+    Want w = {NULL, 0, 0, 0, 0};
+    if (sscanf(text, "R,%zu,%zu,%zu", &w.number, &w.need, &w.have) == 3)
+        return w;
+    check(*text != 'R', "a refusal of a list of edition 2");
+    return result(bytes, unhex(text, bytes));
+}
+
+/* the word behind a space */
+static const char *behind(const char *text)
+{
+    const char *p = strchr(text, ' ');
+    check(p != NULL, "a word is missing");
+    return p == NULL ? "" : p + 1;
+}
+
+/* a body, its ledger in edition 2, and its kept body */
+static void edition_2(const char *text)
+{
+    static uint8_t body[10000], ledger[10000], kept[10000];
+    size_t n = unhex(text, body);
+    uint8_t id = body[0];
+    Want written = answer_of(behind(text), ledger), keeps = answer_of(behind(behind(text)), kept);
+    rooms(&WRITE_2, id, body + 1, n - 1, written);
+    rooms(&KEPT, id, body + 1, n - 1, keeps);
+    if (written.bytes == NULL)
+        return;
+    rooms(&READ, id, ledger, written.size, keeps);
+    one(&WRITE_2, id, kept, keeps.size, written.size, 1, written);
+    one(&KEPT, id, kept, keeps.size, keeps.size, 1, keeps);
+}
+
+/* a ledger of either edition or of none, and the table id with the body that it gives */
+static void ledger_2(const char *text)
+{
+    static uint8_t ledger[10000], given[10000];
+    size_t n = unhex(text, ledger);
+    Want w = answer_of(behind(text), given);
+    rooms(&READ, given[0], ledger, n, w.bytes == NULL ? w : result(given + 1, w.size - 1));
+}
+
+static void lines_of(FILE *file, void (*tried)(const char *), unsigned long least)
+{
+    static char text[40000];
+    for (line = 0; fgets(text, sizeof text, file) != NULL; tried(text))
+        line++;
+    check(line >= least, "fewer lines than there were");
+}
+
 int main(int argc, char **argv)
 {
     static char text[4][20000];
-    FILE *file[4];
-    for (int i = 0; i < 4; i++)
-        if (argc != 5 || (file[i] = fopen(argv[i + 1], "r")) == NULL)
+    FILE *file[6];
+    for (int i = 0; i < 6; i++)
+        if (argc != 7 || (file[i] = fopen(argv[i + 1], "r")) == NULL)
             return 2;
-    in_area = fenced();
-    out_area = fenced();
+    in_area = fenced(SPAN);
+    out_area = fenced(SPAN);
     nothings();
     damaged_ledgers();
     long_ledgers();
     many_ids();
+    lines_of(file[4], edition_2, 400);
+    lines_of(file[5], ledger_2, 700);
     line = 0;
     while (fgets(text[0], sizeof text[0], file[0])) {
         for (int i = 1; i < 4; i++)

@@ -1,7 +1,8 @@
 #!/usr/bin/env python3
-"""A ledger reader written from docs/LEDGER.md alone, and a maker of damaged ledgers.
+"""A reader of ledgers of both editions, written from docs/LEDGER.md alone, and a maker of damaged ledgers.
 
-Use: page.py read < LEDGERS          one line of hexadecimal each; prints the table id and the plain body, or 'R number need have'
+Use: page.py read < LEDGERS          one line of hexadecimal each; prints the table id and the body (the plain one from
+                                     edition 1, the kept one from edition 2), or 'R number need have'
      page.py damage SEED < LEDGERS   prints each ledger several times over, damaged in one place or two
 """
 
@@ -20,10 +21,12 @@ def size_of(width):
 
 
 class Page:
-    """Goes through a ledger field by field and keeps the bits of the plain body as a text of 0 and 1."""
+    """Goes through a ledger field by field and keeps the bits of the body as texts of 0 and 1."""
 
     def __init__(self, ledger):
         self.ledger, self.at, self.bits = ledger, 4, []
+        self.edition = ledger[2]
+        self.in_last_entry = False
 
     def chunk(self, size):
         if len(self.ledger) - self.at < size:
@@ -55,6 +58,18 @@ class Page:
 
     def number(self):
         return int.from_bytes(self.chunk(2), "big")
+
+    def counted_bytes(self):
+        """Raw bytes or filler behind their number, which is no field of the body; the place of the first byte."""
+        size = self.number()
+        place = self.at
+        for byte in self.chunk(size):
+            self.lay(8, byte)
+        return place
+
+    def bytes_since(self, mark):
+        """How many bytes of the body were laid out since self.bits had mark texts."""
+        return sum(map(len, self.bits[mark:])) // 8
 
     def clock(self, times=1):
         for _ in range(times):
@@ -106,13 +121,7 @@ class Page:
             raise Refused(25, place, 0)
         self.bits.append(text)
 
-    def entry_3(self):
-        self.u(32, 4)
-        hole = len(self.bits)
-        self.bits.append("")
-        self.u(6)
-        mode = self.u(2)
-        self.clock(2)
+    def mode_fields(self, mode):
         if mode == 0:
             self.clock(2)
         elif mode == 1:
@@ -123,11 +132,34 @@ class Page:
         elif mode == 2:
             self.clock(4)
         else:
-            for byte in self.chunk(self.number()):
-                self.lay(8, byte)
-        after = sum(map(len, self.bits[hole:])) // 8
-        # a length of more than 12 bits only stands in a body that is over 4,096 bytes
-        self.bits[hole] = format(after, "b").zfill(12)[-12:]
+            self.counted_bytes()
+
+    def filler(self, plan_length, mode, mark):
+        """The filler of a plan whose part behind plan_length starts at mark; refused if no body has such a plan."""
+        without_filler = self.bytes_since(mark)
+        place = self.counted_bytes()
+        there = self.bytes_since(mark)
+        # raw bytes go up to the plan's end, so that none is left to be filler
+        ends_within = there == plan_length and (mode != 3 or there == without_filler)
+        # a plan of mode 3 that ends past the body's end has no raw bytes: 13 bytes stand in front of its filler
+        ends_past = there < plan_length and self.in_last_entry and (mode != 3 or without_filler == 13)
+        if not ends_within and not ends_past:
+            raise Refused(28, place, 0)
+
+    def entry_3(self):
+        self.u(32, 4)
+        # edition 1 has no such field: there the plan's own length is put in below, when the plan is laid out
+        plan_length = self.u(12) if self.edition == 2 else None
+        mark = len(self.bits)
+        self.u(6)
+        mode = self.u(2)
+        self.clock(2)
+        self.mode_fields(mode)
+        if self.edition == 2:
+            self.filler(plan_length, mode, mark)
+        else:
+            # a length of more than 12 bits only stands in a body that is over 4,096 bytes
+            self.bits.insert(mark, format(self.bytes_since(mark), "b").zfill(12)[-12:])
 
     def entry_4(self):
         self.u(24, 3)
@@ -151,7 +183,10 @@ class Page:
                 self.u(4, 4)
                 self.stamp()
             entry = {0: self.entry_0, 1: self.entry_1, 3: self.entry_3, 4: self.entry_4}[table_id]
-            for _ in range(self.number()):
+            entries = self.number()
+            for index in range(entries):
+                # the number of entries alone makes an entry the last, whether or not bytes follow
+                self.in_last_entry = index == entries - 1
                 entry()
         if self.at < len(self.ledger):
             raise Refused(23, self.at, 0)
@@ -162,7 +197,7 @@ class Page:
 def read(ledger):
     if len(ledger) < 4 or int.from_bytes(ledger[:2], "big") != len(ledger) - 2:
         raise Refused(23, 0, 0)
-    if ledger[2] != 1:
+    if ledger[2] not in (1, 2):
         raise Refused(24, 2, 0)
     table_id = ledger[3]
     body = ledger[4:] if table_id > 4 else Page(ledger).content(table_id)

@@ -5,6 +5,9 @@ Use: read.py --check [SEED COUNT]     the replay list, and COUNT fresh cases of 
 
 A second opinion on the oracle: the two share no code, so a line on which they differ is either
 a fault of one of them or a place where document 01 and the Rust part.
+
+`ledger` writes either edition (request S-18), and `body_as` gives the plain body or the kept body
+from the body's own bits. The Rust knows edition 1 alone; edition 2 is held by editions.py.
 """
 
 import os
@@ -21,11 +24,15 @@ class Refused(Exception):
 
 
 class Body:
-    """The bits of a body from a place on, and the ledger bytes written so far."""
+    """The bits of a body from a place on, and the ledger bytes written so far.
 
-    def __init__(self, data):
+    Also noted: place and width of padding, and the bytes of each plan from its start to its filler.
+    """
+
+    def __init__(self, data, edition=1):
         self.end, self.place, self.out = 8 * len(data), 0, bytearray()
         self.data, self.whole = data, int.from_bytes(data, "big")
+        self.edition, self.padding, self.plans = edition, [], []
 
     def left(self):
         return max(0, self.end - self.place)
@@ -55,6 +62,10 @@ class Body:
         value = self.take(width)
         value -= (value >> width - 1) << width
         self.out += value.to_bytes(4, "big", signed=True)
+
+    def counted(self, part):
+        """Bytes behind their 2-byte number."""
+        self.out += len(part).to_bytes(2, "big") + part
 
     def clocks(self, count):
         self.fields(*[33, 6, 9] * count)
@@ -112,12 +123,14 @@ def bitmap(b):
     padding = -size % 8
     slots = b.take(size) << padding
     b.out += slots.to_bytes((size + padding) // 8, "big")
+    b.padding.append((b.place, padding))
     b.take(padding)
 
 
 def plan(b):
+    start = b.place // 8
     b.fields(32, 4)
-    end = b.take(12) * 8
+    end = 8 * (b.field(12) if b.edition == 2 else b.take(12))
     end += b.place
     b.field(6)
     mode = b.field(2)
@@ -132,9 +145,13 @@ def plan(b):
         b.clocks(4)
     else:
         raw = b.data[b.place // 8:end // 8] if end <= b.end else b""
-        b.out += len(raw).to_bytes(2, "big") + raw
+        b.counted(raw)
+        b.place += 8 * len(raw)
     if b.place > end:
         raise Refused(14, b.place - end, 0)
+    b.plans.append((start, b.place // 8))
+    if b.edition == 2:
+        b.counted(b.data[b.place // 8:end // 8])
     b.place = end
 
 
@@ -172,8 +189,9 @@ def entries(b, least, one):
     b.out[at:at] = count.to_bytes(2, "big")
 
 
-def ledger(table_id, data):
-    b = Body(data)
+def reading(table_id, data, edition=1):
+    """The body after its last entry, with the fields' ledger bytes."""
+    b = Body(data, edition)
     if len(data) > 4096:
         raise Refused(21, len(data), 4096)
     if not data and table_id in (2, 4):
@@ -188,8 +206,37 @@ def ledger(table_id, data):
             b.fields(4, 4)
             b.stamp()
         entries(b, *ENTRIES[table_id])
-    rest = bytes([1, table_id]) + b.out
+    return b
+
+
+def ledger(table_id, data, edition=1):
+    rest = bytes([edition, table_id]) + reading(table_id, data, edition).out
     return len(rest).to_bytes(2, "big") + rest
+
+
+def exact(body, start, end):
+    """A plan that ends with its own fields, under the length that it then has."""
+    length = end - start - 6
+    lengths = bytes([body[start + 4] & 0xF0 | length >> 8, length & 0xFF])
+    return body[start:start + 4] + lengths + body[start + 6:end]
+
+
+def body_as(table_id, data, edition):
+    """The plain body (edition 1) or the kept body (edition 2) of an accepted body.
+
+    Kept is the body itself without what stands behind the last entry, and padding 0; the plain body has
+    of each plan there the part before its filler. No ledger is read for it.
+    """
+    b = reading(table_id, data, edition)
+    if table_id > 4:
+        return data
+    bits = b.whole
+    for place, width in b.padding:
+        bits &= ~(((1 << width) - 1) << b.end - place - width)
+    kept = bits.to_bytes(len(data), "big")[:b.place // 8]
+    if table_id != 3 or edition == 2:
+        return kept
+    return b"".join(exact(kept, *span) for span in b.plans)
 
 
 def line(case):

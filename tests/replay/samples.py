@@ -18,15 +18,15 @@ def fragment(latitude):
     return value.to_bytes(19, "big")
 
 
-def listed(table_id, fields):
+def listed(table_id, fields, edition=1):
     """The output line for these ledger fields, given in hexadecimal."""
-    rest = bytes([1, table_id]) + bytes.fromhex(fields)
+    rest = bytes([edition, table_id]) + bytes.fromhex(fields)
     return (len(rest).to_bytes(2, "big") + rest).hex()
 
 
-def centred(latitude):
+def centred(latitude, edition=1):
     return listed(1, "0001 00000000 01 00 00" + latitude + "00 00000000 00000000 00"
-                  "0000 00 0000 00 0000")
+                  "0000 00 0000 00 0000", edition)
 
 
 CLOCK = "0000000000000000 00 0000"

@@ -7,16 +7,16 @@ use mathlib.Core.List.{List, [], _∷_, _++_, map}
 use native.Mathlib.Omega.{arith}
 use lib.ListN.{length, length-append, length-map}
 use borrow.Author.Tests.{le-leb}
-use Rattle.format.specs.Syntax.{Syntax, Field, got}
-use Rattle.format.specs.Body.{plain}
-use Rattle.format.specs.Whole.{Layout, Table, entriesOf, bodyRead, Accepted, plains, plainOf}
+use Rattle.format.specs.Syntax.{Syntax, Field, edition-2, got}
+use Rattle.format.specs.Body.{kept}
+use Rattle.format.specs.Whole.{Layout, Table, entriesOf, bodyRead, Accepted, laids, bodyOf, keptOf}
 use Rattle.format.specs.Calls.{answer, numberOf}
 use Rattle.format.specs.ByName.{the}
 use Rattle.format.specs.Added.{idName, entryIds, firstOfEach}
 use Rattle.format.proofs.DigitLaws.{length-bytes}
 use Rattle.format.proofs.ParseLaws.{then-got}
 use Rattle.format.proofs.Good
-use Rattle.format.proofs.EntryLaws.{AllGood, length-plains}
+use Rattle.format.proofs.EntryLaws.{AllGood, length-keeps}
 use Rattle.format.proofs.TableLaws.{FineLayout, fine-layout, GoodTable, good-one, good-list, good-raw}
 use Rattle.format.proofs.NumberLaws.{Numbered, accepts, numbered-then, numbered-bodyRead}
 use Rattle.format.proofs.Demand.{body-all, accepted-good}
@@ -72,16 +72,17 @@ ids-listed id b out t e h =
 
 -- ---- a buffer that suffices
 
-entries-few : (s : Syntax) (m : ℕ) (es : List (List Field)) → Good.Least m s → 32 ≤ m → AllGood s es → 32 * length es ≤ length (plains es)
+entries-few : (s : Syntax) (m : ℕ) (es : List (List Field)) → Good.Least m s → 32 ≤ m → AllGood s es → 32 * length es ≤ length (laids edition-2 es)
 entries-few s m [] l h g = omega arith
-entries-few s m (ts ∷ es) l h g = omega (arith, length-plains ts es, Good.least m (g .0) l, entries-few s m es l h (g .1))
+entries-few s m (ts ∷ es) l h g = omega (arith, length-keeps ts es, Good.least m (g .0) l, entries-few s m es l h (g .1))
 
-table-few : {y : Layout} {t : Table} → FineLayout y → (IsList y → 32 ≤ leastIn y) → GoodTable y t → 4 * length (entriesOf t) ≤ length (plainOf t)
-unfolding entriesOf plainOf
+table-few : {y : Layout} {t : Table} → FineLayout y → (IsList y → 32 ≤ leastIn y) → GoodTable y t → 4 * length (entriesOf t) ≤ length (keptOf t)
+unfolding entriesOf bodyOf
 table-few x h (good-one g) = omega arith
 table-few x h (good-list {s} {m} {hs} {es} g gs) =
-    let p : List ℕ = plain hs ++ plains es in
-    omega (arith, length-bytes (length p / 8) p, length-append (plain hs) (plains es), entries-few s m es (x .2) (h tt) gs)
+    let keeps : List ℕ = laids edition-2 es in
+    let p : List ℕ = kept hs ++ keeps in
+    omega (arith, length-bytes (length p / 8) p, length-append (kept hs) keeps, entries-few s m es (x .2) (h tt) gs)
 table-few x h (good-raw g) = omega arith
 
 -- there are at most a quarter as many ids as the body has bytes, and at most 1,024: so many are always enough

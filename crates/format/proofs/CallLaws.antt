@@ -1,6 +1,6 @@
--- Demands 1 and 3 of what the ledger's writer and reader return and leave in their buffers.
+-- Demands 1 and 3 of what the ledger's writers and reader return and leave in their buffers.
 -- Assumes nothing.
-use mathlib.Core.Path.{_≡_, refl, sym, ap, _∙_}
+use mathlib.Core.Path.{_≡_, refl, sym, ap, _∙_, subst}
 use mathlib.Core.Bool.{Bool, true, false, cond}
 use mathlib.Core.Logic.{_↔_}
 use mathlib.Core.List.{List, [], _++_}
@@ -13,15 +13,16 @@ use lib.Seq.{take-append-seam, drop-append-seam}
 use borrow.Author.Tests.{le-leb, lt-leb, leb-true}
 use Rattle.format.specs.Digits.{Below, splice}
 use Rattle.format.specs.Refusals.{refuse}
-use Rattle.format.specs.Syntax.{Parse, got, refused, andThen}
-use Rattle.format.specs.Whole.{Table, bodyRead, Accepted, plainOf, ledgerOf, idOf, ledgerRead}
-use Rattle.format.specs.Calls.{numberOf, tableIdOf, lengthOf, answer, Fitted, left, resultIn, Enough, filed, plained, restored, writeAnswer, writeLeft, readAnswer, readLeft, Wrote, Gave}
+use Rattle.format.specs.Syntax.{Edition, Parse, got, refused, andThen}
+use Rattle.format.specs.Whole.{Table, bodyRead, Accepted, bodyOf, ledgerOf, idOf, editionOf, ledgerRead}
+use Rattle.format.specs.Calls.{numberOf, tableIdOf, lengthOf, answer, Fitted, left, resultIn, Enough, filed, relaid, restored, writeAnswer, writeLeft, readAnswer, readLeft, Wrote, Gave}
 use Rattle.format.specs.declared.Refusal.{Refusal}
 use Rattle.format.specs.declared.Answer.{Answer}
 use Rattle.format.specs.declared.Answer.the-variants.{Done, Refused}
 use Rattle.format.proofs.ParseLaws.{then-got}
 use Rattle.format.proofs.NumberLaws.{Numbered, accepts, refuses, numbered-then, numbered-bodyRead, numbered-ledgerRead}
-use Rattle.format.proofs.Demand.{IsLedger, body-all, ledger-all, ledger-length, ledger-again, read-accepted, same-ledger, id-of, ledger-exactly}
+use Rattle.format.proofs.TableLaws.{formOf, body-formOf}
+use Rattle.format.proofs.Demand.{IsLedger, body-all, ledger-all, ledger-length, ledger-again, read-accepted, same-ledger, id-of, edition-of, ledger-exactly}
 
 -- ---- any result and the buffer that is lent for it
 
@@ -67,9 +68,9 @@ answer-refused {f} id out (got xs rest) e = go (leb (length xs) (length out)) _ 
     go true g e = let o : _≡_ {A = ℕ} 0 1 = cc in absurd (omega arith)
     go false g e = refl
 
-pub write-within : {t n : ℕ} (id : ℕ) (b : List ℕ) (room : ℕ) → writeAnswer id b room ≡ Done t n → n ≤ room
+pub write-within : {t n : ℕ} (ed : Edition) (id : ℕ) (b : List ℕ) (room : ℕ) → writeAnswer ed id b room ≡ Done t n → n ≤ room
 unfolding writeAnswer
-write-within id b room e = answer-done id room (filed id b) e .4
+write-within ed id b room e = answer-done id room (filed ed id b) e .4
 
 pub read-within : {t n : ℕ} (l : List ℕ) (room : ℕ) → readAnswer l room ≡ Done t n → n ≤ room
 unfolding readAnswer
@@ -115,72 +116,73 @@ result-given id out xs rest p e h =
       behind = drop-append-seam xs (drop (0 + length xs) out) ∙ ap (λ (k : ℕ). drop k out) (zero-add (length xs));
     })
 
--- ---- the writer
+-- ---- an edition's writer
 
-filed-table : (id : ℕ) (b xs rest : List ℕ) → filed id b ≡ got xs rest → (t : Table) × (bodyRead id b ≡ got t []) × (xs ≡ ledgerOf id t)
+filed-table : (ed : Edition) (id : ℕ) (b xs rest : List ℕ) → filed ed id b ≡ got xs rest → (t : Table) × (bodyRead id b ≡ got t []) × (xs ≡ ledgerOf ed id t)
 unfolding filed
-filed-table id b xs rest e =
-    let o = then-got (bodyRead id b) (λ t r. got (ledgerOf id t) []) e in
-    let q : got (ledgerOf id (o .0)) [] ≡ got xs rest = o .3 in
+filed-table ed id b xs rest e =
+    let o = then-got (bodyRead id b) (λ t r. got (ledgerOf ed id t) []) e in
+    let q : got (ledgerOf ed id (o .0)) [] ≡ got xs rest = o .3 in
     (o .0, rw (body-all id b (o .2)) at (o .2), cc)
 
-numbered-filed : (id : ℕ) (b : List ℕ) → Numbered (filed id b)
+numbered-filed : (ed : Edition) (id : ℕ) (b : List ℕ) → Numbered (filed ed id b)
 unfolding filed
-numbered-filed id b = numbered-then (bodyRead id b) (λ t r. got (ledgerOf id t) []) (numbered-bodyRead id b) (λ _ _. accepts)
+numbered-filed ed id b = numbered-then (bodyRead id b) (λ t r. got (ledgerOf ed id t) []) (numbered-bodyRead id b) (λ _ _. accepts)
 
 -- demand 1: a body is accepted exactly if its reading meets no refusal and there is room for its ledger
-pub write-exactly : (id : ℕ) (b : List ℕ) (room : ℕ)
-    → (numberOf (writeAnswer id b room) ≡ 0) ↔ ((t : Table) × (bodyRead id b ≡ got t []) × (length (ledgerOf id t) ≤ room))
+pub write-exactly : (ed : Edition) (id : ℕ) (b : List ℕ) (room : ℕ)
+    → (numberOf (writeAnswer ed id b room) ≡ 0) ↔ ((t : Table) × (bodyRead id b ≡ got t []) × (length (ledgerOf ed id t) ≤ room))
 unfolding writeAnswer filed answer numberOf
-write-exactly id b room = (there, back)
+write-exactly ed id b room = (there, back)
   where
-    there : numberOf (answer id room (filed id b)) ≡ 0 → (t : Table) × (bodyRead id b ≡ got t []) × (length (ledgerOf id t) ≤ room)
+    there : numberOf (answer id room (filed ed id b)) ≡ 0 → (t : Table) × (bodyRead id b ≡ got t []) × (length (ledgerOf ed id t) ≤ room)
     there e =
-        let o = accepts-result id room (filed id b) (numbered-filed id b) e in
-        let q = filed-table id b (o .0) (o .1) (o .2) in
+        let o = accepts-result id room (filed ed id b) (numbered-filed ed id b) e in
+        let q = filed-table ed id b (o .0) (o .1) (o .2) in
         (q .0, q .1, rw (q .2) at (o .3))
 
-    back : (t : Table) × (bodyRead id b ≡ got t []) × (length (ledgerOf id t) ≤ room) → numberOf (answer id room (filed id b)) ≡ 0
-    back r = rw (r .1, le-leb (length (ledgerOf id (r .0))) room (r .2))
+    back : (t : Table) × (bodyRead id b ≡ got t []) × (length (ledgerOf ed id t) ≤ room) → numberOf (answer id room (filed ed id b)) ≡ 0
+    back r = rw (r .1, le-leb (length (ledgerOf ed id (r .0))) room (r .2))
 
--- an accepted pair, and room for its ledger: the writer leaves that
-pub accepted-wrote : {id : ℕ} {b : List ℕ} {t : Table} (out : List ℕ) → Accepted id b t → length (ledgerOf id t) ≤ length out → Wrote id b out (ledgerOf id t)
+-- an accepted pair, and room for its ledger: the edition's writer leaves that
+pub accepted-wrote : {id : ℕ} {b : List ℕ} {t : Table} (ed : Edition) (out : List ℕ) → Accepted id b t → length (ledgerOf ed id t) ≤ length out → Wrote ed id b out (ledgerOf ed id t)
 unfolding writeAnswer writeLeft filed
-accepted-wrote {id} {b} {t} out p h =
-    let g = result-given id out (ledgerOf id t) [] (andThen (bodyRead id b) (λ u r. got (ledgerOf id u) [])) (rw (p .reads)) h in
+accepted-wrote {id} {b} {t} ed out p h =
+    let g = result-given id out (ledgerOf ed id t) [] (andThen (bodyRead id b) (λ u r. got (ledgerOf ed id u) [])) (rw (p .reads)) h in
     record { accepts = g .accepts; result = g .result }
 
 -- and what it leaves is the ledger of an accepted pair
-pub wrote-accepted : {id : ℕ} {b out l : List ℕ} → id < 256 → Below 256 b → Wrote id b out l
-    → (t : Table) × Accepted id b t × (ledgerOf id t ≡ l) × (length l ≤ length out)
+pub wrote-accepted : {ed : Edition} {id : ℕ} {b out l : List ℕ} → id < 256 → Below 256 b → Wrote ed id b out l
+    → (t : Table) × Accepted id b t × (ledgerOf ed id t ≡ l) × (length l ≤ length out)
 unfolding writeAnswer writeLeft
-wrote-accepted {id} {b} {out} {l} hi hb w =
-    let o = accepts-result id (length out) (filed id b) (numbered-filed id b) (w .accepts) in
-    let q = filed-table id b (o .0) (o .1) (o .2) in
-    let g = result-given id out (o .0) (o .1) (filed id b) (o .2) (o .3) in
+wrote-accepted {ed} {id} {b} {out} {l} hi hb w =
+    let o = accepts-result id (length out) (filed ed id b) (numbered-filed ed id b) (w .accepts) in
+    let q = filed-table ed id b (o .0) (o .1) (o .2) in
+    let g = result-given id out (o .0) (o .1) (filed ed id b) (o .2) (o .3) in
     let e : o .0 ≡ l = sym (g .result) ∙ w .result in
     (q .0, record { byte = hi; bytes = hb; reads = q .1 }, sym (q .2) ∙ e, rw e at (o .3))
 
 -- ---- the reader
 
-restored-table : (l xs rest : List ℕ) → restored l ≡ got xs rest → (t : Table) × (ledgerRead l ≡ got t []) × (xs ≡ plainOf t)
+restored-table : (l xs rest : List ℕ) → restored l ≡ got xs rest → (t : Table) × (ledgerRead l ≡ got t []) × (xs ≡ bodyOf (editionOf l) t)
 unfolding restored
 restored-table l xs rest e =
-    let o = then-got (ledgerRead l) (λ t r. got (plainOf t) []) e in
-    let q : got (plainOf (o .0)) [] ≡ got xs rest = o .3 in
+    let o = then-got (ledgerRead l) (λ t r. got (bodyOf (editionOf l) t) []) e in
+    let q : got (bodyOf (editionOf l) (o .0)) [] ≡ got xs rest = o .3 in
     (o .0, rw (ledger-all l (o .2)) at (o .2), cc)
 
 numbered-restored : (l : List ℕ) → Numbered (restored l)
 unfolding restored
-numbered-restored l = numbered-then (ledgerRead l) (λ t r. got (plainOf t) []) (numbered-ledgerRead l) (λ _ _. accepts)
+numbered-restored l = numbered-then (ledgerRead l) (λ t r. got (bodyOf (editionOf l) t) []) (numbered-ledgerRead l) (λ _ _. accepts)
 
-pub read-gave : {l : List ℕ} {t : Table} (out : List ℕ) → ledgerRead l ≡ got t [] → length (plainOf t) ≤ length out → Gave l out (idOf l) (plainOf t)
+pub read-gave : {l : List ℕ} {t : Table} (out : List ℕ) → ledgerRead l ≡ got t [] → length (bodyOf (editionOf l) t) ≤ length out → Gave l out (idOf l) (bodyOf (editionOf l) t)
 unfolding readAnswer readLeft restored
 read-gave {l} {t} out e h =
-    let g = result-given (idOf l) out (plainOf t) [] (andThen (ledgerRead l) (λ u r. got (plainOf u) [])) (rw e) h in
+    let ed : Edition = editionOf l in
+    let g = result-given (idOf l) out (bodyOf ed t) [] (andThen (ledgerRead l) (λ u r. got (bodyOf ed u) [])) (rw e) h in
     record { accepts = g .accepts; tableId = g .tableId; result = g .result }
 
-pub gave-read : {l out b : List ℕ} {id : ℕ} → Gave l out id b → (t : Table) × (ledgerRead l ≡ got t []) × (idOf l ≡ id) × (plainOf t ≡ b)
+pub gave-read : {l out b : List ℕ} {id : ℕ} → Gave l out id b → (t : Table) × (ledgerRead l ≡ got t []) × (idOf l ≡ id) × (bodyOf (editionOf l) t ≡ b)
 unfolding readAnswer readLeft
 gave-read {l} {out} {b} {id} w =
     let o = accepts-result (idOf l) (length out) (restored l) (numbered-restored l) (w .accepts) in
@@ -188,72 +190,76 @@ gave-read {l} {out} {b} {id} w =
     let g = result-given (idOf l) out (o .0) (o .1) (restored l) (o .2) (o .3) in
     (q .0, q .1, sym (g .tableId) ∙ w .tableId, sym (q .2) ∙ sym (g .result) ∙ w .result)
 
-enough-plain : (l : List ℕ) (t : Table) (room : ℕ) → ledgerRead l ≡ got t [] → Enough room (restored l) → length (plainOf t) ≤ room
+enough-body : (l : List ℕ) (t : Table) (room : ℕ) → ledgerRead l ≡ got t [] → Enough room (restored l) → length (bodyOf (editionOf l) t) ≤ room
 unfolding restored
-enough-plain l t room e h = rw e at h
+enough-body l t room e h = rw e at h
 
--- ---- demand 3
+-- ---- demand 3, in each edition
 
-plain-of : {id : ℕ} {b : List ℕ} {t : Table} → Accepted id b t → plained id b ≡ got (plainOf t) []
-unfolding plained
-plain-of p = rw (p .reads)
+relaid-of : {id : ℕ} {b : List ℕ} {t : Table} (ed : Edition) → Accepted id b t → relaid ed id b ≡ got (bodyOf ed t) []
+unfolding relaid
+relaid-of ed p = rw (p .reads)
 
--- two pairs share a ledger exactly when they have the same id and the same plain body
-pub share-exactly : {id id′ : ℕ} {b b′ out out′ l l′ : List ℕ} → id < 256 → id′ < 256 → Below 256 b → Below 256 b′ → Wrote id b out l → Wrote id′ b′ out′ l′
-    → (l ≡ l′) ↔ ((id ≡ id′) × (plained id b ≡ plained id′ b′))
-share-exactly {id} {id′} {b} {b′} {l = l} {l′ = l′} hi hi′ hb hb′ w w′ =
+-- two pairs share a ledger exactly when they have the same id and the same plain body; in edition 2, the same kept body
+pub share-exactly : {ed : Edition} {id id′ : ℕ} {b b′ out out′ l l′ : List ℕ} → id < 256 → id′ < 256 → Below 256 b → Below 256 b′ → Wrote ed id b out l → Wrote ed id′ b′ out′ l′
+    → (l ≡ l′) ↔ ((id ≡ id′) × (relaid ed id b ≡ relaid ed id′ b′))
+share-exactly {ed} {id} {id′} {b} {b′} {l = l} {l′ = l′} hi hi′ hb hb′ w w′ =
     let o = wrote-accepted hi hb w in
     let o′ = wrote-accepted hi′ hb′ w′ in
-    let s = same-ledger (o .1) (o′ .1) in (
-      λ e. let r = s .0 (o .2 ∙ e ∙ sym (o′ .2)) in (r .0, plain-of (o .1) ∙ ap (λ (x : List ℕ). got x []) (r .1) ∙ sym (plain-of (o′ .1))),
-      λ r. sym (o .2) ∙ s .1 (r .0, inj (sym (plain-of (o .1)) ∙ r .1 ∙ plain-of (o′ .1))) ∙ o′ .2,
+    let s = same-ledger ed (o .1) (o′ .1) in (
+      λ e. let r = s .0 (o .2 ∙ e ∙ sym (o′ .2)) in (r .0, relaid-of ed (o .1) ∙ ap (λ (x : List ℕ). got x []) (r .1) ∙ sym (relaid-of ed (o′ .1))),
+      λ r. sym (o .2) ∙ s .1 (r .0, inj (sym (relaid-of ed (o .1)) ∙ r .1 ∙ relaid-of ed (o′ .1))) ∙ o′ .2,
     )
   where
     inj : {x y : List ℕ} → got x [] ≡ got y [] → x ≡ y
     inj e = cc
 
--- it alone gives back the id and the plain body of every pair with that ledger
-pub gives-back : {id : ℕ} {b out l : List ℕ} → id < 256 → Below 256 b → Wrote id b out l
-    → (out′ : List ℕ) → Enough (length out′) (restored l) → (p : List ℕ) × (plained id b ≡ got p []) × Gave l out′ id p
-gives-back {id} {b} {l = l} hi hb w out′ h =
+-- it alone gives back the id and the plain, or kept, body of every pair with that ledger
+pub gives-back : {ed : Edition} {id : ℕ} {b out l : List ℕ} → id < 256 → Below 256 b → Wrote ed id b out l
+    → (out′ : List ℕ) → Enough (length out′) (restored l) → (p : List ℕ) × (relaid ed id b ≡ got p []) × Gave l out′ id p
+gives-back {ed} {id} {b} {l = l} hi hb w out′ h =
     let o = wrote-accepted hi hb w in
-    let e : ledgerRead l ≡ got (o .0) [] = ap ledgerRead (sym (o .2)) ∙ ledger-again (o .1) in
-    let i : idOf l ≡ id = ap idOf (sym (o .2)) ∙ id-of id (o .0) in
-    (plainOf (o .0), plain-of (o .1), rw i at (read-gave out′ e (enough-plain l (o .0) (length out′) e h)))
+    let t : Table = formOf ed (o .0) in
+    let e : ledgerRead l ≡ got t [] = ap ledgerRead (sym (o .2)) ∙ ledger-again ed (o .1) in
+    let i : idOf l ≡ id = ap idOf (sym (o .2)) ∙ id-of ed id (o .0) in
+    let d : editionOf l ≡ ed = ap editionOf (sym (o .2)) ∙ edition-of ed id (o .0) in
+    let z : bodyOf (editionOf l) t ≡ bodyOf ed (o .0) = ap (λ (x : Edition). bodyOf x t) d ∙ body-formOf ed (o .0) in
+    (bodyOf ed (o .0), relaid-of ed (o .1), rw (i, z) at (read-gave out′ e (enough-body l t (length out′) e h)))
 
 -- what is read of a ledger has it for its ledger, under the id and body that the reader names
-written-again : {l : List ℕ} {t : Table} (id : ℕ) (b out : List ℕ) → Below 256 l → ledgerRead l ≡ got t [] → idOf l ≡ id → plainOf t ≡ b → length l ≤ length out → Wrote id b out l
+written-again : {l : List ℕ} {t : Table} (id : ℕ) (b out : List ℕ) → Below 256 l → ledgerRead l ≡ got t [] → idOf l ≡ id → bodyOf (editionOf l) t ≡ b → length l ≤ length out → Wrote (editionOf l) id b out l
 written-again {l} {t} id b out hl e ei eb h =
+    let ed : Edition = editionOf l in
     let q = read-accepted l t hl e in
-    let w : Wrote (idOf l) (plainOf t) out l = rw (q .1) at (accepted-wrote out (q .0) (rw (q .1) h)) in
-    rw (← ei, ← eb) w
+    let w : Wrote ed (idOf l) (bodyOf ed t) out (ledgerOf ed (idOf l) t) = accepted-wrote ed out (q .0) (rw (q .1) h) in
+    subst (λ (x : List ℕ). Wrote ed id b out x) (q .1) (subst (λ (x : List ℕ). Wrote ed id x out (ledgerOf ed (idOf l) t)) eb (subst (λ (x : ℕ). Wrote ed x (bodyOf ed t) out (ledgerOf ed (idOf l) t)) ei w))
 
--- this body under this id is accepted and has that byte string as its ledger again
+-- this body under this id is accepted and has that byte string as its ledger again, in the edition that it names
 pub ledger-of-result : {l out b : List ℕ} {id : ℕ} → Below 256 l → Gave l out id b
-    → (out′ : List ℕ) → length l ≤ length out′ → Wrote id b out′ l
+    → (out′ : List ℕ) → length l ≤ length out′ → Wrote (editionOf l) id b out′ l
 ledger-of-result {b = b} {id} hl g out′ h = let o = gave-read g in written-again id b out′ hl (o .1) (o .2) (o .3) h
 
--- a byte string is accepted, given a large enough buffer, exactly if it is the ledger of some pair; so it is refused exactly if of none
-pub read-exactly : (l out : List ℕ) → Below 256 l → Enough (length out) (restored l) → (numberOf (readAnswer l (length out)) ≡ 0) ↔ IsLedger l
+-- a byte string is accepted, given a large enough buffer, exactly if it is the ledger of some pair in an edition; so it is refused exactly if it is one in neither
+pub read-exactly : (l out : List ℕ) → Below 256 l → Enough (length out) (restored l) → (numberOf (readAnswer l (length out)) ≡ 0) ↔ ((ed : Edition) × IsLedger ed l)
 unfolding readAnswer
 read-exactly l out hl h = (there, back)
   where
-    there : numberOf (answer (idOf l) (length out) (restored l)) ≡ 0 → IsLedger l
+    there : numberOf (answer (idOf l) (length out) (restored l)) ≡ 0 → (ed : Edition) × IsLedger ed l
     there e =
         let o = accepts-result (idOf l) (length out) (restored l) (numbered-restored l) e in
         let q = restored-table l (o .0) (o .1) (o .2) in
         ledger-exactly l hl .0 (q .0, q .1)
 
-    back : IsLedger l → numberOf (answer (idOf l) (length out) (restored l)) ≡ 0
+    back : (ed : Edition) × IsLedger ed l → numberOf (answer (idOf l) (length out) (restored l)) ≡ 0
     back r =
         let o = ledger-exactly l hl .1 r in
-        read-gave out (o .1) (enough-plain l (o .0) (length out) (o .1) h) .accepts
+        read-gave out (o .1) (enough-body l (o .0) (length out) (o .1) h) .accepts
 
-pub refused-exactly : (l out : List ℕ) → Below 256 l → Enough (length out) (restored l) → (numberOf (readAnswer l (length out)) ≡ 0 → ⊥) ↔ (IsLedger l → ⊥)
+pub refused-exactly : (l out : List ℕ) → Below 256 l → Enough (length out) (restored l) → (numberOf (readAnswer l (length out)) ≡ 0 → ⊥) ↔ ((ed : Edition) → IsLedger ed l → ⊥)
 refused-exactly l out hl h =
     let r = read-exactly l out hl h in
-    (λ no-accept ledger. no-accept (r .1 ledger), λ no-ledger accept. no-ledger (r .0 accept))
+    (λ no-accept ed ledger. no-accept (r .1 (ed, ledger)), λ no-ledger accept. let o = r .0 accept in no-ledger (o .0) (o .1))
 
 -- the bound
-pub wrote-length : {id : ℕ} {b out l : List ℕ} → id < 256 → Below 256 b → Wrote id b out l → length l ≤ 6 + 2 * length b
-wrote-length hi hb w = let o = wrote-accepted hi hb w in rw (← o .2) (ledger-length (o .1))
+pub wrote-length : {ed : Edition} {id : ℕ} {b out l : List ℕ} → id < 256 → Below 256 b → Wrote ed id b out l → length l ≤ 6 + 2 * length b
+wrote-length {ed} hi hb w = let o = wrote-accepted hi hb w in rw (← o .2) (ledger-length ed (o .1))

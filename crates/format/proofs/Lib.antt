@@ -1,6 +1,7 @@
 pub mod DigitLaws
 pub mod ParseLaws
 pub mod Good
+pub mod Forms
 pub mod BodyLaws
 pub mod LedgerLaws
 pub mod FineTables
@@ -9,10 +10,12 @@ pub mod TableLaws
 pub mod NumberLaws
 pub mod Demand
 pub mod CallLaws
+pub mod EditionLaws
 pub mod ReadLaws
 pub mod GroupLaws
 pub mod ListLaws
 pub mod WalkLaws
 pub mod StartLaws
 pub mod AgreeLaws
+pub mod PlanLaws
 pub mod IdLaws

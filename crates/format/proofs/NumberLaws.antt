@@ -1,16 +1,16 @@
 -- Every refusal has a number that is not 0, so that 0 says acceptance.
 -- Assumes nothing.
-use mathlib.Core.Bool.{Bool, true, false, cond, _&&_}
-use mathlib.Core.List.{List}
+use mathlib.Core.Bool.{Bool, true, false, cond, _&&_, _||_}
+use mathlib.Core.List.{List, [], _∷_}
 use Prim.Native.Nat.{ℕ, zero, suc, _+_, _*_, _-_, _%_, _^_, _<_}
 use native.Mathlib.Omega.{arith}
 use lib.Dec.{leb, eqb, ltb→lt}
-use lib.ListN.{length, take, drop, getD}
+use lib.ListN.{length, take, drop}
 use Rattle.format.specs.Digits.{value, bitsOf}
-use Rattle.format.specs.Syntax.{Syntax, end, field, when, need, slots, plan, raw, Field, num, flags, len, Parse, got, refused, andThen, push}
-use Rattle.format.specs.Body.{wholes, close, readBody}
-use Rattle.format.specs.Ledger.{size, widened, grant, readLedger}
-use Rattle.format.specs.Whole.{Layout, sole, many, opaque, layout, Table, walk, entries, readAs, bodyRead, plainOf, counted, ended, contentAs, sized, idOf, ledgerRead}
+use Rattle.format.specs.Syntax.{Name, Syntax, end, field, when, need, slots, plan, raw, Field, num, flags, bytes, Edition, edition-1, edition-2, Parse, got, refused, andThen, push}
+use Rattle.format.specs.Body.{wholes, planned, close, readBody}
+use Rattle.format.specs.Ledger.{size, widened, grant, readCountedBytes, leaves, readFiller, readLedger}
+use Rattle.format.specs.Whole.{Layout, sole, many, opaque, layout, Table, walk, entries, readAs, bodyRead, bodyOf, counted, ended, contentAs, sized, versionOf, idOf, known, editionOf, ledgerRead}
 use Rattle.format.proofs.Good.{Fine}
 use Rattle.format.proofs.TableLaws.{FineLayout, fine-layout}
 
@@ -36,8 +36,8 @@ module _ {A : Type 0} where
 
 -- ---- a body
 
-numbered-close : (n e : ℕ) (p : Parse (List Field)) → Numbered p → Numbered (close n e p)
-numbered-close n e p h = numbered-then p _ h (λ ts rest. numbered-cond (leb (n - length rest) e) _ _ accepts (refuses (omega arith)))
+numbered-close : (nm : Name) (v n e : ℕ) (p : Parse (List Field)) → Numbered p → Numbered (close nm v n e p)
+numbered-close nm v n e p h = numbered-then p _ h (λ ts rest. numbered-cond (leb (n - length rest) e) _ _ accepts (refuses (omega arith)))
 
 numbered-body : (i : Bool) (b c n e : ℕ) (s : Syntax) (bs : List ℕ) → Fine i b c s → Numbered (readBody n e s bs)
 unfolding readBody
@@ -51,8 +51,9 @@ numbered-body i b c n e (need a w k) bs f = numbered-cond (leb w (length bs)) _ 
 numbered-body i b c n e (slots nm a m k) bs f =
     numbered-cond (leb m (length bs)) _ _ (numbered-push _ _ (numbered-body i b c n e k (drop (8 * wholes m) bs) (f .2))) (refuses (ltb→lt 0 a (f .0)))
 numbered-body i b c n e (plan nm k) bs f =
-    let e′ : ℕ = n - length (drop 12 bs) + 8 * value 2 (take 12 bs) in
-    numbered-cond (leb 12 (length bs)) _ _ (numbered-push _ _ (numbered-close n e′ _ (numbered-body true (b + 12) c n e′ k (drop 12 bs) (f .1)))) (refuses (omega arith))
+    let v : ℕ = value 2 (take 12 bs) in
+    let e′ : ℕ = n - length (drop 12 bs) + 8 * v in
+    numbered-cond (leb 12 (length bs)) _ _ (numbered-close nm v n e′ _ (numbered-body true (b + 12) (c + 4) n e′ k (drop 12 bs) (f .2))) (refuses (omega arith))
 numbered-body i b c n e (raw nm) bs f = accepts
 
 numbered-entries : (n m : ℕ) (s : Syntax) (turns : ℕ) (bs : List ℕ) → Fine false 0 0 s → Numbered (entries n m s turns bs)
@@ -77,44 +78,58 @@ numbered-bodyRead id b = numbered-cond (leb (length b) 4096) _ _ (numbered-as (l
 
 -- ---- a ledger
 
-numbered-ledger : (n : ℕ) (s : Syntax) (bs : List ℕ) → Numbered (readLedger n s bs)
+numbered-bytes : (n : ℕ) (bs : List ℕ) (k : List ℕ → List ℕ → Parse (List Field)) → ((xs rest : List ℕ) → Numbered (k xs rest)) → Numbered (readCountedBytes n bs k)
+numbered-bytes n bs k h = numbered-grant n 2 true bs _ (numbered-grant n (value 256 (take 2 bs)) true (drop 2 bs) _ (h _ _))
+
+numbered-fill : (last : Bool) (n : ℕ) (nm : Name) (v : ℕ) (ts : List Field) (bs : List ℕ) → Numbered (readFiller last n nm v ts bs)
+numbered-fill last n nm v ts bs =
+    numbered-bytes n bs (λ fs rest. cond (leaves last v ts (length fs)) (got (planned nm v ts fs) rest) (refused 28 (n - length (drop 2 bs)) 0))
+    (λ fs rest. numbered-cond (leaves last v ts (length fs)) _ _ accepts (refuses (omega arith)))
+
+numbered-ledger : (ed : Edition) (last : Bool) (n : ℕ) (s : Syntax) (bs : List ℕ) → Numbered (readLedger ed last n s bs)
 unfolding readLedger
-numbered-ledger n end bs = accepts
-numbered-ledger n (field g nm w k) bs =
+numbered-ledger ed last n end bs = accepts
+numbered-ledger ed last n (field g nm w k) bs =
     let x : ℕ = value 256 (take (size g w) bs) in
     let v : ℕ = x % 2 ^ w in
-    numbered-grant n (size g w) (eqb (widened g w v) x) bs _ (numbered-push (num g nm w v) _ (numbered-ledger n (k v) (drop (size g w) bs)))
-numbered-ledger n (when true k l) bs = numbered-ledger n k bs
-numbered-ledger n (when false k l) bs = numbered-ledger n l bs
-numbered-ledger n (need a w k) bs = numbered-ledger n k bs
-numbered-ledger n (slots nm a m k) bs =
+    numbered-grant n (size g w) (eqb (widened g w v) x) bs _ (numbered-push (num g nm w v) _ (numbered-ledger ed last n (k v) (drop (size g w) bs)))
+numbered-ledger ed last n (when true k l) bs = numbered-ledger ed last n k bs
+numbered-ledger ed last n (when false k l) bs = numbered-ledger ed last n l bs
+numbered-ledger ed last n (need a w k) bs = numbered-ledger ed last n k bs
+numbered-ledger ed last n (slots nm a m k) bs =
     let packed : List ℕ = bitsOf (take (wholes m) bs) in
-    numbered-grant n (wholes m) (eqb (value 2 (drop m packed)) 0) bs _ (numbered-push (flags nm (take m packed)) _ (numbered-ledger n k (drop (wholes m) bs)))
-numbered-ledger n (plan nm k) bs = numbered-push (len nm) _ (numbered-ledger n k bs)
-numbered-ledger n (raw nm) bs = numbered-grant n 2 true bs _ (numbered-grant n (value 256 (take 2 bs)) true (drop 2 bs) _ accepts)
+    numbered-grant n (wholes m) (eqb (value 2 (drop m packed)) 0) bs _ (numbered-push (flags nm (take m packed)) _ (numbered-ledger ed last n k (drop (wholes m) bs)))
+numbered-ledger edition-1 last n (plan nm k) bs = numbered-then (readLedger edition-1 last n k bs) _ (numbered-ledger edition-1 last n k bs) (λ _ _. accepts)
+numbered-ledger edition-2 last n (plan nm k) bs =
+    let x : ℕ = value 256 (take 2 bs) in
+    let v : ℕ = x % 2 ^ 12 in
+    numbered-grant n 2 (eqb v x) bs _
+    (numbered-then (readLedger edition-2 last n k (drop 2 bs)) _ (numbered-ledger edition-2 last n k (drop 2 bs)) (λ ts rest. numbered-fill last n nm v ts rest))
+numbered-ledger ed last n (raw nm) bs = numbered-bytes n bs (λ xs rest. got (bytes nm xs ∷ []) rest) (λ _ _. accepts)
 
-numbered-counted : (n : ℕ) (s : Syntax) (c : ℕ) (bs : List ℕ) → Numbered (counted n s c bs)
+numbered-counted : (ed : Edition) (n : ℕ) (s : Syntax) (c : ℕ) (bs : List ℕ) → Numbered (counted ed n s c bs)
 unfolding counted
-numbered-counted n s zero bs = accepts
-numbered-counted n s (suc c) bs =
-    numbered-then (readLedger n s bs) _ (numbered-ledger n s bs) (λ ts rest. numbered-push ts _ (numbered-counted n s c rest))
+numbered-counted ed n s zero bs = accepts
+numbered-counted ed n s (suc c) bs =
+    numbered-then (readLedger ed (eqb c 0) n s bs) _ (numbered-ledger ed (eqb c 0) n s bs) (λ ts rest. numbered-push ts _ (numbered-counted ed n s c rest))
 
 numbered-ended : (n : ℕ) (p : Parse Table) → Numbered p → Numbered (ended n p)
 numbered-ended n p h = numbered-then p _ h (λ t rest. numbered-cond (eqb (length rest) 0) _ _ accepts (refuses (omega arith)))
 
-numbered-content : (n : ℕ) (l : Layout) (bs : List ℕ) → Numbered (contentAs n l bs)
+numbered-content : (ed : Edition) (n : ℕ) (l : Layout) (bs : List ℕ) → Numbered (contentAs ed n l bs)
 unfolding contentAs
-numbered-content n (sole s) bs = numbered-ended n _ (numbered-then (readLedger n s bs) _ (numbered-ledger n s bs) (λ _ _. accepts))
-numbered-content n (many h m s) bs =
-    numbered-ended n _ (numbered-then (readLedger n h bs) _ (numbered-ledger n h bs) (λ hs rest.
-    numbered-grant n 2 true rest _ (numbered-then (counted n s (value 256 (take 2 rest)) (drop 2 rest)) _ (numbered-counted n s (value 256 (take 2 rest)) (drop 2 rest)) (λ _ _. accepts))))
-numbered-content n opaque bs = accepts
+numbered-content ed n (sole s) bs = numbered-ended n _ (numbered-then (readLedger ed true n s bs) _ (numbered-ledger ed true n s bs) (λ _ _. accepts))
+numbered-content ed n (many h m s) bs =
+    numbered-ended n _ (numbered-then (readLedger ed false n h bs) _ (numbered-ledger ed false n h bs) (λ hs rest.
+    numbered-grant n 2 true rest _ (numbered-then (counted ed n s (value 256 (take 2 rest)) (drop 2 rest)) _ (numbered-counted ed n s (value 256 (take 2 rest)) (drop 2 rest)) (λ _ _. accepts))))
+numbered-content ed n opaque bs = accepts
 
-numbered-sized : (p : Parse Table) → Numbered p → Numbered (sized p)
-numbered-sized p h = numbered-then p _ h (λ t rest. numbered-cond (leb (length (plainOf t)) 4096) _ _ accepts (refuses (omega arith)))
+numbered-sized : (ed : Edition) (p : Parse Table) → Numbered p → Numbered (sized ed p)
+numbered-sized ed p h = numbered-then p _ h (λ t rest. numbered-cond (leb (length (bodyOf ed t)) 4096) _ _ accepts (refuses (omega arith)))
 
 pub numbered-ledgerRead : (l : List ℕ) → Numbered (ledgerRead l)
 unfolding ledgerRead
 numbered-ledgerRead l =
     numbered-cond (leb 4 (length l) && eqb (value 256 (take 2 l)) (length l - 2)) _ _
-    (numbered-cond (eqb (getD l 2 0) 1) _ _ (numbered-sized _ (numbered-content (length l) (layout (idOf l)) (drop 4 l))) (refuses (omega arith))) (refuses (omega arith))
+    (numbered-cond (known (versionOf l)) _ _ (numbered-sized (editionOf l) _ (numbered-content (editionOf l) (length l) (layout (idOf l)) (drop 4 l))) (refuses (omega arith)))
+    (refuses (omega arith))

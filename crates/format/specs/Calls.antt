@@ -1,4 +1,4 @@
--- What the calls answer that fill a lent buffer, the ledger's writer and reader first, and what they leave in it.
+-- What the calls answer that fill a lent buffer, the ledger's writers and reader first, and what they leave in it.
 -- Assumes nothing: these are definitions.
 use Prim.Native.Nat.{ℕ, _≤_}
 use mathlib.Core.Path.{_≡_}
@@ -8,8 +8,8 @@ use lib.Dec.{leb}
 use lib.ListN.{length, take}
 use Rattle.format.specs.Digits.{splice}
 use Rattle.format.specs.Refusals.{refuse}
-use Rattle.format.specs.Syntax.{Parse, got, refused, andThen}
-use Rattle.format.specs.Whole.{bodyRead, plainOf, ledgerOf, idOf, ledgerRead}
+use Rattle.format.specs.Syntax.{Edition, Parse, got, refused, andThen}
+use Rattle.format.specs.Whole.{bodyRead, bodyOf, ledgerOf, idOf, editionOf, ledgerRead}
 use Rattle.format.specs.declared.Answer.{Answer}
 use Rattle.format.specs.declared.Answer.the-variants.{Done, Refused}
 
@@ -60,26 +60,26 @@ abbrev pub Enough : ℕ → Parse (List ℕ) → Type 0
 Enough room (got xs rest) = length xs ≤ room
 Enough room (refused number needed had) = Unit {0}
 
--- ---- the writer and the reader
+-- ---- the writers and the reader
 
--- the ledger of a body, or the body's refusal
-unfoldable pub filed : ℕ → List ℕ → Parse (List ℕ)
-filed id b = andThen (bodyRead id b) (λ t rest. got (ledgerOf id t) [])
+-- the ledger of a body in an edition, or the body's refusal
+unfoldable pub filed : Edition → ℕ → List ℕ → Parse (List ℕ)
+filed ed id b = andThen (bodyRead id b) (λ t rest. got (ledgerOf ed id t) [])
 
--- the plain body of a body, or the body's refusal
-unfoldable pub plained : ℕ → List ℕ → Parse (List ℕ)
-plained id b = andThen (bodyRead id b) (λ t rest. got (plainOf t) [])
+-- the plain (edition 1) or kept (edition 2) body of a body, or the body's refusal
+unfoldable pub relaid : Edition → ℕ → List ℕ → Parse (List ℕ)
+relaid ed id b = andThen (bodyRead id b) (λ t rest. got (bodyOf ed t) [])
 
--- the plain body of a ledger, or the ledger's refusal
+-- the plain (edition 1) or kept (edition 2) body of a ledger, or the ledger's refusal
 unfoldable pub restored : List ℕ → Parse (List ℕ)
-restored l = andThen (ledgerRead l) (λ t rest. got (plainOf t) [])
+restored l = andThen (ledgerRead l) (λ t rest. got (bodyOf (editionOf l) t) [])
 
--- a table id, a body and the buffer, or its length
-unfoldable pub writeAnswer : ℕ → List ℕ → ℕ → Answer
-writeAnswer id b room = answer id room (filed id b)
+-- an edition, a table id, a body and the buffer, or its length
+unfoldable pub writeAnswer : Edition → ℕ → List ℕ → ℕ → Answer
+writeAnswer ed id b room = answer id room (filed ed id b)
 
-unfoldable pub writeLeft : ℕ → List ℕ → List ℕ → List ℕ
-writeLeft id b out = left out (filed id b)
+unfoldable pub writeLeft : Edition → ℕ → List ℕ → List ℕ → List ℕ
+writeLeft ed id b out = left out (filed ed id b)
 
 -- a ledger and the buffer, or its length
 unfoldable pub readAnswer : List ℕ → ℕ → Answer
@@ -90,10 +90,10 @@ readLeft l out = left out (restored l)
 
 -- ---- what a caller sees
 
--- the writer, given a table id, a body and a buffer, accepts and leaves l at the buffer's start
-pub record Wrote (id : ℕ) (b out l : List ℕ) : Type 0 where
-  pub accepts : numberOf (writeAnswer id b (length out)) ≡ 0
-  pub result : resultIn (writeAnswer id b (length out)) (writeLeft id b out) ≡ l
+-- an edition's writer, given a table id, a body and a buffer, accepts and leaves l at the buffer's start
+pub record Wrote (ed : Edition) (id : ℕ) (b out l : List ℕ) : Type 0 where
+  pub accepts : numberOf (writeAnswer ed id b (length out)) ≡ 0
+  pub result : resultIn (writeAnswer ed id b (length out)) (writeLeft ed id b out) ≡ l
 
 -- the reader, given a ledger and a buffer, accepts, names the table id, and leaves the body b at the buffer's start
 pub record Gave (l out : List ℕ) (id : ℕ) (b : List ℕ) : Type 0 where

@@ -3,7 +3,7 @@
 use Prim.Native.Nat.{ℕ}
 use Prim.Native.String.{String}
 use mathlib.Core.Bool.{Bool}
-use mathlib.Core.List.{List, _∷_}
+use mathlib.Core.List.{List, [], _∷_}
 
 -- a field's name, in the Rust's words
 abbrev pub Name : Type 0
@@ -17,7 +17,8 @@ pub data Sign : Type 0 where
 --   when t k l       k where t holds, else l
 --   need a w k       refusal a unless w bits remain
 --   slots nm a m k   refusal a unless m bits remain; then nm, m single bits, and padding to the byte
---   plan nm k        nm, 12 bits: how many bytes the plan has behind them; then k, which must not pass that end
+--   plan nm k        nm, 12 bits: how many bytes the plan has behind them; then k, which must not pass that end, and
+--                    filler up to it
 --   raw nm           nm, the bytes up to the plan's end, or none where that end is past the data
 pub data Syntax : Type 0 where
   end : Syntax
@@ -28,12 +29,23 @@ pub data Syntax : Type 0 where
   plan : Name → Syntax → Syntax
   raw : Name → Syntax
 
--- A field as read, under its name: a width and the number that the bits spell; the slots' bits; the bits of raw bytes.
--- A plan's length has no value of its own here: what follows it decides it.
+-- A field as read, under its name: a width and the number that the bits spell; the slots' bits; the bits of raw bytes;
+-- a plan's length; the bits of its "filler" (S-18), which stands behind fields and padding up to its end or the data's.
 pub data Field : Type 0 where
   num : Sign → Name → ℕ → ℕ → Field
   flags bytes : Name → List ℕ → Field
-  len : Name → Field
+  len : Name → ℕ → Field
+  filler : List ℕ → Field
+
+-- The "editions" of the ledger (S-18), and of the body that comes back from it. In the first a plan's length is what
+-- its fields take and there is no filler; the second keeps both as they came.
+pub data Edition : Type 0 where
+  edition-1 edition-2 : Edition
+
+-- what the second edition alone has
+abbrev pub added : Edition → List ℕ → List ℕ
+added edition-1 xs = []
+added edition-2 xs = xs
 
 -- what reading gives: something read, and the digits that are left; or a refusal's number, need and have
 pub data Parse (A : Type 0) : Type 0 where

@@ -1,15 +1,15 @@
--- A whole body and a whole ledger: table ids, entries, accepted bodies, the plain body, the ledger and its reading.
+-- A whole body and a whole ledger: table ids, entries, accepted bodies, plain and kept body, ledger, and its reading.
 -- Assumes nothing: these are definitions.
 use Prim.Native.Nat.{ℕ, zero, suc, _+_, _*_, _-_, _/_, _<_}
 use mathlib.Core.Path.{_≡_}
-use mathlib.Core.Bool.{cond, true, _&&_}
+use mathlib.Core.Bool.{Bool, cond, true, false, _&&_, _||_}
 use mathlib.Core.List.{List, [], _∷_, _++_}
 use lib.Dec.{leb, eqb}
 use lib.ListN.{length, take, drop, getD}
 use Rattle.format.specs.Digits.{digits, value, Below, bitsOf, bytesOf}
-use Rattle.format.specs.Syntax.{Syntax, end, Field, Parse, got, refused, andThen, push}
+use Rattle.format.specs.Syntax.{Syntax, end, Field, Edition, edition-1, edition-2, Parse, got, refused, andThen, push}
 use Rattle.format.specs.Tables.{position, fragment, association, beamhopping, header, position3}
-use Rattle.format.specs.Body.{readBody, plain}
+use Rattle.format.specs.Body.{readBody, laid}
 use Rattle.format.specs.Ledger.{ledger, readLedger, grant}
 
 -- ---- table ids
@@ -91,61 +91,87 @@ pub record Accepted (id : ℕ) (b : List ℕ) (t : Table) : Type 0 where
 -- ---- what the fields give
 
 -- one after the other
-unfoldable pub plains : List (List Field) → List ℕ
-plains [] = []
-plains (ts ∷ es) = plain ts ++ plains es
+unfoldable pub laids : Edition → List (List Field) → List ℕ
+laids ed [] = []
+laids ed (ts ∷ es) = laid ed ts ++ laids ed es
 
-unfoldable pub ledgers : List (List Field) → List ℕ
-ledgers [] = []
-ledgers (ts ∷ es) = ledger ts ++ ledgers es
+unfoldable pub ledgers : Edition → List (List Field) → List ℕ
+ledgers ed [] = []
+ledgers ed (ts ∷ es) = ledger ed ts ++ ledgers ed es
 
 abbrev pub packed : List ℕ → List ℕ
 packed bs = bytesOf (length bs / 8) bs
 
--- "plain body": every field once, plan lengths exact, padding zero, nothing over
-unfoldable pub plainOf : Table → List ℕ
-plainOf (one ts) = packed (plain ts)
-plainOf (list hs es) = packed (plain hs ++ plains es)
-plainOf (asIs b) = b
+-- Every field once, padding zero, nothing over. In edition 1 the "plain body": plan lengths exact, no filler; in edition
+-- 2 the "kept body" (S-18): both as they came.
+unfoldable pub bodyOf : Edition → Table → List ℕ
+bodyOf ed (one ts) = packed (laid ed ts)
+bodyOf ed (list hs es) = packed (laid ed hs ++ laids ed es)
+bodyOf ed (asIs b) = b
+
+abbrev pub keptOf : Table → List ℕ
+keptOf t = bodyOf edition-2 t
 
 -- what follows the table id in a ledger; the entries behind their 2-byte count
-unfoldable pub contentOf : Table → List ℕ
-contentOf (one ts) = ledger ts
-contentOf (list hs es) = ledger hs ++ (digits 256 2 (length es) ++ ledgers es)
-contentOf (asIs b) = b
+unfoldable pub contentOf : Edition → Table → List ℕ
+contentOf ed (one ts) = ledger ed ts
+contentOf ed (list hs es) = ledger ed hs ++ (digits 256 2 (length es) ++ ledgers ed es)
+contentOf ed (asIs b) = b
+
+-- an edition's "version byte"
+abbrev pub version : Edition → ℕ
+version edition-1 = 1
+version edition-2 = 2
 
 -- "ledger": length, version, table id, content
-unfoldable pub ledgerOf : ℕ → Table → List ℕ
-ledgerOf id t = digits 256 2 (length (contentOf t) + 2) ++ (1 ∷ id ∷ contentOf t)
+unfoldable pub ledgerOf : Edition → ℕ → Table → List ℕ
+ledgerOf ed id t = digits 256 2 (length (contentOf ed t) + 2) ++ (version ed ∷ id ∷ contentOf ed t)
 
 -- ---- reading a ledger. n: its bytes in all
 
--- so many entries
-unfoldable pub counted : ℕ → Syntax → ℕ → List ℕ → Parse (List (List Field))
-counted n s zero bs = got [] bs
-counted n s (suc c) bs = andThen (readLedger n s bs) (λ ts rest. push ts (counted n s c rest))
+-- so many entries; the last, by the count, may be a plan that ends past the data
+unfoldable pub counted : Edition → ℕ → Syntax → ℕ → List ℕ → Parse (List (List Field))
+counted ed n s zero bs = got [] bs
+counted ed n s (suc c) bs = andThen (readLedger ed (eqb c 0) n s bs) (λ ts rest. push ts (counted ed n s c rest))
 
 -- no bytes over
 abbrev pub ended : ℕ → Parse Table → Parse Table
 ended n p = andThen p (λ t rest. cond (eqb (length rest) 0) (got t []) (refused 23 (n - length rest) 0))
 
-unfoldable pub contentAs : ℕ → Layout → List ℕ → Parse Table
-contentAs n (sole s) bs = ended n (andThen (readLedger n s bs) (λ ts rest. got (one ts) rest))
-contentAs n (many h m s) bs =
-    ended n (andThen (readLedger n h bs) (λ hs rest.
-    grant n 2 true rest (andThen (counted n s (value 256 (take 2 rest)) (drop 2 rest)) (λ es over. got (list hs es) over))))
-contentAs n opaque bs = got (asIs bs) []
+unfoldable pub contentAs : Edition → ℕ → Layout → List ℕ → Parse Table
+contentAs ed n (sole s) bs = ended n (andThen (readLedger ed true n s bs) (λ ts rest. got (one ts) rest))
+contentAs ed n (many h m s) bs =
+    ended n (andThen (readLedger ed false n h bs) (λ hs rest.
+    grant n 2 true rest (
+    andThen (counted ed n s (value 256 (take 2 rest)) (drop 2 rest)) (λ es over. got (list hs es) over))))
+contentAs ed n opaque bs = got (asIs bs) []
 
--- the plain body is not over 4096 bytes
-abbrev pub sized : Parse Table → Parse Table
-sized p = andThen p (λ t rest. cond (leb (length (plainOf t)) 4096) (got t rest) (refused 26 (length (plainOf t)) 4096))
+-- the body that comes back, plain or kept, is not over 4096 bytes (26)
+abbrev pub sized : Edition → Parse Table → Parse Table
+sized ed p =
+    andThen p (λ t rest.
+    cond (leb (length (bodyOf ed t)) 4096) (got t rest) (refused 26 (length (bodyOf ed t)) 4096))
 
--- the table id that a ledger names
+-- the version and the table id that a ledger names
+abbrev pub versionOf : List ℕ → ℕ
+versionOf l = getD l 2 0
+
 abbrev pub idOf : List ℕ → ℕ
 idOf l = getD l 3 0
 
--- the reading of a ledger: too short or of a wrong length, the version, the fields, their size
+-- whether a version is an edition's, and the edition that it then is of
+abbrev pub known : ℕ → Bool
+known v = eqb v 1 || eqb v 2
+
+abbrev pub editionFor : ℕ → Edition
+editionFor v = cond (eqb v 2) edition-2 edition-1
+
+abbrev pub editionOf : List ℕ → Edition
+editionOf l = editionFor (versionOf l)
+
+-- the reading of a ledger: too short or of a wrong length (23), the version (24), the fields, their size
 unfoldable pub ledgerRead : List ℕ → Parse Table
 ledgerRead l =
-    let more : Parse Table = sized (contentAs (length l) (layout (idOf l)) (drop 4 l)) in
-    cond (leb 4 (length l) && eqb (value 256 (take 2 l)) (length l - 2)) (cond (eqb (getD l 2 0) 1) more (refused 24 2 0)) (refused 23 0 0)
+    let more : Parse Table = sized (editionOf l) (contentAs (editionOf l) (length l) (layout (idOf l)) (drop 4 l)) in
+    cond (leb 4 (length l) && eqb (value 256 (take 2 l)) (length l - 2))
+    (cond (known (versionOf l)) more (refused 24 2 0)) (refused 23 0 0)

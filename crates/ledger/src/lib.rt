@@ -1,182 +1,145 @@
-// The ledger's writer and reader, the plain body, the entries' ids and the order of clocks, for C. The call that fills
-// a buffer returns 0 or the refusal's number; the further calls take the same bytes and the buffer's length, write
-// nothing, and give the answer's other numbers, 0 where there is none. The order of clocks refuses nothing.
+// The ledger's writers and reader, the plain and the kept body, the entries' ids and the order of clocks, for C. The
+// call that fills a buffer returns 0 or the refusal's number; the further calls take the same bytes and the buffer's
+// length, write nothing, and give the answer's other numbers, 0 where there is none. The order of clocks refuses
+// nothing.
 ghost use mathlib.Core.Path.{_≡_};
 ghost use lib.ListN.{length};
+ghost use Rattle.format.specs.Syntax.{edition-1, edition-2};
 ghost use Rattle.format.specs.Calls.{numberOf, needOf, haveOf, tableIdOf, lengthOf, writeAnswer, writeLeft, readAnswer, readLeft};
-ghost use Rattle.plain_body.specs.Plain.{plainAnswer, plainLeft};
+ghost use Rattle.plain_body.specs.Bodies.{bodyAnswer, bodyLeft};
 ghost use Rattle.entry_ids.specs.Ids.{idsAnswer, idsLeft};
 ghost use Rattle.clock_order.specs.Order.{clockOrder, orderNumber};
-ghost use Rattle.ledger.specs.Sizes.{MeasureFitted};
+use crate::answers::kept_answer;
+use crate::answers::plain_answer;
+use crate::answers::read_answer;
+use crate::answers::write_answer;
+use crate::answers::write_answer_edition_2;
+use crate::numbers::have_of;
+use crate::numbers::length_of;
+use crate::numbers::need_of;
+use crate::numbers::number_of;
+use crate::numbers::table_id_of;
 use clock_order::ClockOrder;
 use clock_order::clock_order;
 use entry_ids::entry_ids;
 use entry_ids::entry_ids_answer;
-use format::Answer;
-use format::fitted;
-use ledger_reader::Measure;
-use ledger_reader::ledger_measure;
 use ledger_reader::ledger_read;
-use ledger_reader::measure_refusal;
-use ledger_writer::LedgerSize;
-use ledger_writer::ledger_size;
 use ledger_writer::ledger_write;
-use ledger_writer::size_refusal;
+use ledger_writer::ledger_write_edition_2;
+use plain_body::kept_body;
 use plain_body::plain_body;
-use plain_body::plain_measure;
 
-// The refusal's number, or 0.
-fn number_of(answer: Answer) -> u32
-    ensures { λ r. ⌜ r ≡ numberOf answer ⌝ }
-{
-    match answer {
-        Answer::Done {
-            table_id: _,
-            length: _,
-        } => 0,
-        Answer::Refused(f) => f.number as u32,
-    }
-}
+mod answers;
+mod numbers;
 
-// What the refusal asks for, or 0.
-fn need_of(answer: Answer) -> usize
-    ensures { λ r. ⌜ r ≡ needOf answer ⌝ }
-{
-    match answer {
-        Answer::Done {
-            table_id: _,
-            length: _,
-        } => 0,
-        Answer::Refused(f) => f.need,
-    }
-}
-
-// What there was in place of that, or 0.
-fn have_of(answer: Answer) -> usize
-    ensures { λ r. ⌜ r ≡ haveOf answer ⌝ }
-{
-    match answer {
-        Answer::Done {
-            table_id: _,
-            length: _,
-        } => 0,
-        Answer::Refused(f) => f.have,
-    }
-}
-
-// The table id, or 0 after a refusal.
-fn table_id_of(answer: Answer) -> u8
-    ensures { λ r. ⌜ r ≡ tableIdOf answer ⌝ }
-{
-    match answer {
-        Answer::Done {
-            table_id,
-            length: _,
-        } => table_id,
-        Answer::Refused(_) => 0,
-    }
-}
-
-// The result's length, or 0 after a refusal.
-fn length_of(answer: Answer) -> usize
-    ensures { λ r. ⌜ r ≡ lengthOf answer ⌝ }
-{
-    match answer {
-        Answer::Done {
-            table_id: _,
-            length,
-        } => length,
-        Answer::Refused(_) => 0usize,
-    }
-}
-
-// The answer to a plain body of this measure in a buffer of so many bytes.
-fn measure_answer(measure: Measure, room: usize) -> Answer
-    ensures { λ r. ⌜ MeasureFitted measure room r ⌝ }
-{
-    let Measure::Size {
-        table_id,
-        length: size,
-    } = measure
-    else {
-        return Answer::Refused(measure_refusal(measure));
-    };
-    fitted(table_id, size, room)
-}
-
-// What the writer answers with a buffer of so many bytes.
-fn write_answer(table_id: u8, body: &[u8], room: usize) -> Answer
-    ensures { λ r. ⌜ r ≡ writeAnswer «table_id» (now (body .entry)) room ⌝ }
-{
-    let size = ledger_size(table_id, body);
-    let LedgerSize::Size(n) = size else {
-        return Answer::Refused(size_refusal(size));
-    };
-    fitted(table_id, n, room)
-}
-
-// What the reader answers with a buffer of so many bytes.
-fn read_answer(ledger: &[u8], room: usize) -> Answer
-    ensures { λ r. ⌜ r ≡ readAnswer (now (ledger .entry)) room ⌝ }
-{
-    let measure = ledger_measure(ledger);
-    measure_answer(measure, room)
-}
-
-// What the call for a body's plain body answers with a buffer of so many bytes.
-fn plain_answer(table_id: u8, body: &[u8], room: usize) -> Answer
-    ensures { λ r. ⌜ r ≡ plainAnswer «table_id» (now (body .entry)) room ⌝ }
-{
-    let measure = plain_measure(table_id, body);
-    measure_answer(measure, room)
-}
-
-// The ledger of a body, at the buffer's start; after a refusal the buffer is as it was.
+// The ledger of a body in edition 1, at the buffer's start; after a refusal the buffer is as it was.
 #[no_mangle]
 pub extern "C" fn sat_ledger_write(table_id: u8, body: &[u8], out: &mut [u8]) -> u32
-    ensures { λ r. ⌜ (r ≡ numberOf (writeAnswer «table_id» (now (body .entry)) (length (now (out .entry))))) × (now (out .exit) ≡ writeLeft «table_id» (now (body .entry)) (now (out .entry))) ⌝ }
+    ensures { λ r. ⌜ (r ≡ numberOf (writeAnswer edition-1 «table_id» (now (body .entry)) (length (now (out .entry))))) × (now (out .exit) ≡ writeLeft edition-1 «table_id» (now (body .entry)) (now (out .entry))) ⌝ }
 {
     let answer = ledger_write(table_id, body, out);
     number_of(answer)
 }
 
-// The first value of the writer's refusal.
+// The first value of a refusal by the writer of edition 1.
 #[no_mangle]
 pub extern "C" fn sat_ledger_write_need(table_id: u8, body: &[u8], out_len: usize) -> usize
-    ensures { λ r. ⌜ r ≡ needOf (writeAnswer «table_id» (now (body .entry)) «out_len») ⌝ }
+    ensures { λ r. ⌜ r ≡ needOf (writeAnswer edition-1 «table_id» (now (body .entry)) «out_len») ⌝ }
 {
     let answer = write_answer(table_id, body, out_len);
     need_of(answer)
 }
 
-// The second value of the writer's refusal.
+// The second value of a refusal by the writer of edition 1.
 #[no_mangle]
 pub extern "C" fn sat_ledger_write_have(table_id: u8, body: &[u8], out_len: usize) -> usize
-    ensures { λ r. ⌜ r ≡ haveOf (writeAnswer «table_id» (now (body .entry)) «out_len») ⌝ }
+    ensures { λ r. ⌜ r ≡ haveOf (writeAnswer edition-1 «table_id» (now (body .entry)) «out_len») ⌝ }
 {
     let answer = write_answer(table_id, body, out_len);
     have_of(answer)
 }
 
-// The table id in the ledger that the writer leaves.
+// The table id in the ledger that the writer of edition 1 leaves.
 #[no_mangle]
 pub extern "C" fn sat_ledger_write_table_id(table_id: u8, body: &[u8], out_len: usize) -> u8
-    ensures { λ r. ⌜ r ≡ tableIdOf (writeAnswer «table_id» (now (body .entry)) «out_len») ⌝ }
+    ensures { λ r. ⌜ r ≡ tableIdOf (writeAnswer edition-1 «table_id» (now (body .entry)) «out_len») ⌝ }
 {
     let answer = write_answer(table_id, body, out_len);
     table_id_of(answer)
 }
 
-// The length of the ledger that the writer leaves.
+// The length of the ledger that the writer of edition 1 leaves.
 #[no_mangle]
 pub extern "C" fn sat_ledger_write_length(table_id: u8, body: &[u8], out_len: usize) -> usize
-    ensures { λ r. ⌜ r ≡ lengthOf (writeAnswer «table_id» (now (body .entry)) «out_len») ⌝ }
+    ensures { λ r. ⌜ r ≡ lengthOf (writeAnswer edition-1 «table_id» (now (body .entry)) «out_len») ⌝ }
 {
     let answer = write_answer(table_id, body, out_len);
     length_of(answer)
 }
 
-// The plain body of a ledger, at the buffer's start; after a refusal the buffer is as it was.
+// The ledger of a body in edition 2, at the buffer's start; after a refusal the buffer is as it was.
+#[no_mangle]
+pub extern "C" fn sat_ledger_write_edition_2(table_id: u8, body: &[u8], out: &mut [u8]) -> u32
+    ensures { λ r. ⌜ (r ≡ numberOf (writeAnswer edition-2 «table_id» (now (body .entry)) (length (now (out .entry))))) × (now (out .exit) ≡ writeLeft edition-2 «table_id» (now (body .entry)) (now (out .entry))) ⌝ }
+{
+    let answer = ledger_write_edition_2(table_id, body, out);
+    number_of(answer)
+}
+
+// The first value of a refusal by the writer of edition 2.
+#[no_mangle]
+pub extern "C" fn sat_ledger_write_edition_2_need(
+    table_id: u8,
+    body: &[u8],
+    out_len: usize,
+) -> usize
+    ensures { λ r. ⌜ r ≡ needOf (writeAnswer edition-2 «table_id» (now (body .entry)) «out_len») ⌝ }
+{
+    let answer = write_answer_edition_2(table_id, body, out_len);
+    need_of(answer)
+}
+
+// The second value of a refusal by the writer of edition 2.
+#[no_mangle]
+pub extern "C" fn sat_ledger_write_edition_2_have(
+    table_id: u8,
+    body: &[u8],
+    out_len: usize,
+) -> usize
+    ensures { λ r. ⌜ r ≡ haveOf (writeAnswer edition-2 «table_id» (now (body .entry)) «out_len») ⌝ }
+{
+    let answer = write_answer_edition_2(table_id, body, out_len);
+    have_of(answer)
+}
+
+// The table id in the ledger that the writer of edition 2 leaves.
+#[no_mangle]
+pub extern "C" fn sat_ledger_write_edition_2_table_id(
+    table_id: u8,
+    body: &[u8],
+    out_len: usize,
+) -> u8
+    ensures { λ r. ⌜ r ≡ tableIdOf (writeAnswer edition-2 «table_id» (now (body .entry)) «out_len») ⌝ }
+{
+    let answer = write_answer_edition_2(table_id, body, out_len);
+    table_id_of(answer)
+}
+
+// The length of the ledger that the writer of edition 2 leaves.
+#[no_mangle]
+pub extern "C" fn sat_ledger_write_edition_2_length(
+    table_id: u8,
+    body: &[u8],
+    out_len: usize,
+) -> usize
+    ensures { λ r. ⌜ r ≡ lengthOf (writeAnswer edition-2 «table_id» (now (body .entry)) «out_len») ⌝ }
+{
+    let answer = write_answer_edition_2(table_id, body, out_len);
+    length_of(answer)
+}
+
+// The body of a ledger, plain in edition 1 and kept in edition 2, at the buffer's start; after a refusal the buffer is
+// as it was.
 #[no_mangle]
 pub extern "C" fn sat_ledger_read(ledger: &[u8], out: &mut [u8]) -> u32
     ensures { λ r. ⌜ (r ≡ numberOf (readAnswer (now (ledger .entry)) (length (now (out .entry))))) × (now (out .exit) ≡ readLeft (now (ledger .entry)) (now (out .entry))) ⌝ }
@@ -212,7 +175,7 @@ pub extern "C" fn sat_ledger_read_table_id(ledger: &[u8], out_len: usize) -> u8
     table_id_of(answer)
 }
 
-// The length of the plain body that the reader leaves.
+// The length of the body that the reader leaves.
 #[no_mangle]
 pub extern "C" fn sat_ledger_read_length(ledger: &[u8], out_len: usize) -> usize
     ensures { λ r. ⌜ r ≡ lengthOf (readAnswer (now (ledger .entry)) «out_len») ⌝ }
@@ -224,7 +187,7 @@ pub extern "C" fn sat_ledger_read_length(ledger: &[u8], out_len: usize) -> usize
 // The plain body of a body, at the buffer's start; after a refusal the buffer is as it was.
 #[no_mangle]
 pub extern "C" fn sat_plain_body(table_id: u8, body: &[u8], out: &mut [u8]) -> u32
-    ensures { λ r. ⌜ (r ≡ numberOf (plainAnswer «table_id» (now (body .entry)) (length (now (out .entry))))) × (now (out .exit) ≡ plainLeft «table_id» (now (body .entry)) (now (out .entry))) ⌝ }
+    ensures { λ r. ⌜ (r ≡ numberOf (bodyAnswer edition-1 «table_id» (now (body .entry)) (length (now (out .entry))))) × (now (out .exit) ≡ bodyLeft edition-1 «table_id» (now (body .entry)) (now (out .entry))) ⌝ }
 {
     let answer = plain_body(table_id, body, out);
     number_of(answer)
@@ -233,7 +196,7 @@ pub extern "C" fn sat_plain_body(table_id: u8, body: &[u8], out: &mut [u8]) -> u
 // The first value of the refusal of the call above.
 #[no_mangle]
 pub extern "C" fn sat_plain_body_need(table_id: u8, body: &[u8], out_len: usize) -> usize
-    ensures { λ r. ⌜ r ≡ needOf (plainAnswer «table_id» (now (body .entry)) «out_len») ⌝ }
+    ensures { λ r. ⌜ r ≡ needOf (bodyAnswer edition-1 «table_id» (now (body .entry)) «out_len») ⌝ }
 {
     let answer = plain_answer(table_id, body, out_len);
     need_of(answer)
@@ -242,7 +205,7 @@ pub extern "C" fn sat_plain_body_need(table_id: u8, body: &[u8], out_len: usize)
 // The second value of that refusal.
 #[no_mangle]
 pub extern "C" fn sat_plain_body_have(table_id: u8, body: &[u8], out_len: usize) -> usize
-    ensures { λ r. ⌜ r ≡ haveOf (plainAnswer «table_id» (now (body .entry)) «out_len») ⌝ }
+    ensures { λ r. ⌜ r ≡ haveOf (bodyAnswer edition-1 «table_id» (now (body .entry)) «out_len») ⌝ }
 {
     let answer = plain_answer(table_id, body, out_len);
     have_of(answer)
@@ -251,7 +214,7 @@ pub extern "C" fn sat_plain_body_have(table_id: u8, body: &[u8], out_len: usize)
 // The table id of the plain body that is left.
 #[no_mangle]
 pub extern "C" fn sat_plain_body_table_id(table_id: u8, body: &[u8], out_len: usize) -> u8
-    ensures { λ r. ⌜ r ≡ tableIdOf (plainAnswer «table_id» (now (body .entry)) «out_len») ⌝ }
+    ensures { λ r. ⌜ r ≡ tableIdOf (bodyAnswer edition-1 «table_id» (now (body .entry)) «out_len») ⌝ }
 {
     let answer = plain_answer(table_id, body, out_len);
     table_id_of(answer)
@@ -260,9 +223,54 @@ pub extern "C" fn sat_plain_body_table_id(table_id: u8, body: &[u8], out_len: us
 // The length of the plain body that is left.
 #[no_mangle]
 pub extern "C" fn sat_plain_body_length(table_id: u8, body: &[u8], out_len: usize) -> usize
-    ensures { λ r. ⌜ r ≡ lengthOf (plainAnswer «table_id» (now (body .entry)) «out_len») ⌝ }
+    ensures { λ r. ⌜ r ≡ lengthOf (bodyAnswer edition-1 «table_id» (now (body .entry)) «out_len») ⌝ }
 {
     let answer = plain_answer(table_id, body, out_len);
+    length_of(answer)
+}
+
+// The kept body of a body, at the buffer's start; after a refusal the buffer is as it was.
+#[no_mangle]
+pub extern "C" fn sat_kept_body(table_id: u8, body: &[u8], out: &mut [u8]) -> u32
+    ensures { λ r. ⌜ (r ≡ numberOf (bodyAnswer edition-2 «table_id» (now (body .entry)) (length (now (out .entry))))) × (now (out .exit) ≡ bodyLeft edition-2 «table_id» (now (body .entry)) (now (out .entry))) ⌝ }
+{
+    let answer = kept_body(table_id, body, out);
+    number_of(answer)
+}
+
+// The first value of the refusal of the call above.
+#[no_mangle]
+pub extern "C" fn sat_kept_body_need(table_id: u8, body: &[u8], out_len: usize) -> usize
+    ensures { λ r. ⌜ r ≡ needOf (bodyAnswer edition-2 «table_id» (now (body .entry)) «out_len») ⌝ }
+{
+    let answer = kept_answer(table_id, body, out_len);
+    need_of(answer)
+}
+
+// The second value of that refusal.
+#[no_mangle]
+pub extern "C" fn sat_kept_body_have(table_id: u8, body: &[u8], out_len: usize) -> usize
+    ensures { λ r. ⌜ r ≡ haveOf (bodyAnswer edition-2 «table_id» (now (body .entry)) «out_len») ⌝ }
+{
+    let answer = kept_answer(table_id, body, out_len);
+    have_of(answer)
+}
+
+// The table id of the kept body that is left.
+#[no_mangle]
+pub extern "C" fn sat_kept_body_table_id(table_id: u8, body: &[u8], out_len: usize) -> u8
+    ensures { λ r. ⌜ r ≡ tableIdOf (bodyAnswer edition-2 «table_id» (now (body .entry)) «out_len») ⌝ }
+{
+    let answer = kept_answer(table_id, body, out_len);
+    table_id_of(answer)
+}
+
+// The length of the kept body that is left.
+#[no_mangle]
+pub extern "C" fn sat_kept_body_length(table_id: u8, body: &[u8], out_len: usize) -> usize
+    ensures { λ r. ⌜ r ≡ lengthOf (bodyAnswer edition-2 «table_id» (now (body .entry)) «out_len») ⌝ }
+{
+    let answer = kept_answer(table_id, body, out_len);
     length_of(answer)
 }
 

@@ -11,10 +11,10 @@ use lib.Seq.{drop-length}
 use borrow.Author.Tests.{ne-eqb}
 use Rattle.format.specs.Digits.{bitsOf, splice}
 use Rattle.format.specs.Refusals.{refuse}
-use Rattle.format.specs.Syntax.{Syntax, end, Parse, got, refused, andThen}
-use Rattle.format.specs.Body.{plain}
+use Rattle.format.specs.Syntax.{Syntax, end, Edition, Parse, got, refused, andThen}
+use Rattle.format.specs.Body.{laid}
 use Rattle.format.specs.Ledger.{readLedger, grant}
-use Rattle.format.specs.Whole.{Layout, sole, many, opaque, layout, one, list, asIs, plains, ended, contentAs}
+use Rattle.format.specs.Whole.{Layout, sole, many, opaque, layout, one, list, asIs, laids, ended, contentAs}
 use Rattle.format.specs.declared.Refusal.{Refusal}
 use Rattle.format.proofs.DigitLaws.{length-bits}
 use Rattle.format.proofs.Good.{Fine}
@@ -25,8 +25,8 @@ use Rattle.runs.specs.Steps.{stored}
 use Rattle.runs.specs.declared.Step.{Step}
 use Rattle.runs.specs.declared.Step.the-variants.{Done, Refused}
 use Rattle.runs.proofs.Stores.{stored-fits}
-use Rattle.read_runs.specs.Came.{Halted}
-use Rattle.read_runs.proofs.CameLaws.{plain-nil}
+use Rattle.read_runs.specs.Came.{Way, wayOf, Halted}
+use Rattle.read_runs.proofs.CameLaws.{laid-none}
 use Rattle.read_plans.specs.Taken.{Took, Taken}
 use Rattle.ledger_reader.specs.Held.{Listed, entryOf, listing, fieldsAs, bitsIn, Held, Refuses, Holds}
 
@@ -59,9 +59,9 @@ headless (suc (suc (suc (suc n)))) h k = absurd (omega arith)
 
 -- ---- fields
 
-module _ {l out out′ : List ℕ} where
+module _ {ed : Edition} {l out out′ : List ℕ} where
   -- one set of fields
-  pub sole-holds : {s : Syntax} {r : Step} → Taken l s 4 0 out out′ r → Holds bitsIn l (fieldsAs (length l) (sole s) (drop 4 l)) 0 out out′ r
+  pub sole-holds : {s : Syntax} {r : Step} → Taken (wayOf ed true) l s 4 0 out out′ r → Holds (bitsIn ed) l (fieldsAs ed (length l) (sole s) (drop 4 l)) 0 out out′ r
   sole-holds {r = Done a p v} x =
       let w = x .to in
       record { to = record { what = one (w .ts); reads = rw (w .reads); size = w .size; bits = w .bits; within = w .within } }
@@ -69,7 +69,7 @@ module _ {l out out′ : List ℕ} where
 
   -- raw bytes
   pub opaque-holds : 4 ≤ length l → out′ ≡ stored out 0 (drop 4 l)
-      → Held bitsIn l (fieldsAs (length l) opaque (drop 4 l)) 0 out (length l) (8 * (length l - 4)) out′
+      → Held (bitsIn ed) l (fieldsAs ed (length l) opaque (drop 4 l)) 0 out (length l) (8 * (length l - 4)) out′
   opaque-holds h b =
       let n = length-bits (drop 4 l) in
       record {
@@ -81,14 +81,14 @@ module _ {l out out′ : List ℕ} where
       }
 
 -- no head is read as one of no fields
-pub no-head : {l out : List ℕ} → 4 ≤ length l → Took l end 4 0 out 4 0 out
+pub no-head : {way : Way} {l out : List ℕ} → 4 ≤ length l → Took way l end 4 0 out 4 0 out
 unfolding readLedger
-no-head {out = out} h =
+no-head {way} {out = out} h =
     record {
       ts = [];
       reads = refl;
-      size = omega (arith, ap length plain-nil);
-      bits = λ _. sym (rw plain-nil (splice-nil (bitsOf out) 0));
+      size = omega (arith, ap length (laid-none (way .edition)));
+      bits = λ _. sym (rw (laid-none (way .edition)) (splice-nil (bitsOf out) 0));
       long = refl;
       within = h;
       slack = omega arith;
@@ -102,22 +102,22 @@ grant-then n bs p k = go (leb 2 (length bs))
     go true = refl
     go false = refl
 
-module _ (m : ℕ) (s : Syntax) {l : List ℕ} {h : Syntax} where
-  pub head-no : {f : Refusal} → Halted l h 4 f → Refuses (fieldsAs (length l) (many h m s) (drop 4 l)) f
+module _ (m : ℕ) (s : Syntax) {ed : Edition} {l : List ℕ} {h : Syntax} where
+  pub head-no : {f : Refusal} → Halted (wayOf ed false) l h 4 f → Refuses (fieldsAs ed (length l) (many h m s) (drop 4 l)) f
   head-no x = record { reads = rw (x .reads) }
 
-  module _ {out out₁ : List ℕ} {place at : ℕ} (w : Took l h 4 0 out place at out₁) where
-    after-head : fieldsAs (length l) (many h m s) (drop 4 l) ≡ andThen (listing (length l) s (drop place l)) (λ es over. got (list (w .ts) es) over)
+  module _ {out out₁ : List ℕ} {place at : ℕ} (w : Took (wayOf ed false) l h 4 0 out place at out₁) where
+    after-head : fieldsAs ed (length l) (many h m s) (drop 4 l) ≡ andThen (listing ed (length l) s (drop place l)) (λ es over. got (list (w .ts) es) over)
     after-head = rw (w .reads) (grant-then (length l) (drop place l) _ (λ es over. got (list (w .ts) es) over))
 
     -- the head's fields and the entries behind them
-    pub list-holds : {out′ : List ℕ} {r : Step} → Holds plains l (listing (length l) s (drop place l)) at out₁ out′ r
-        → Holds bitsIn l (fieldsAs (length l) (many h m s) (drop 4 l)) 0 out out′ r
+    pub list-holds : {out′ : List ℕ} {r : Step} → Holds (laids ed) l (listing ed (length l) s (drop place l)) at out₁ out′ r
+        → Holds (bitsIn ed) l (fieldsAs ed (length l) (many h m s) (drop 4 l)) 0 out out′ r
     list-holds {r = Refused f} x = record { to = record { reads = after-head ∙ rw (x .to .reads) } }
     list-holds {out′} {r = Done a p v} x =
         let y = x .to in
-        let b = plain (w .ts) in
-        let c = plains (y .what) in
+        let b = laid ed (w .ts) in
+        let c = laids ed (y .what) in
         let z = w .size in
         let z′ = y .size in
         record {
@@ -133,28 +133,28 @@ module _ (m : ℕ) (s : Syntax) {l : List ℕ} {h : Syntax} where
 
 -- ---- nothing over
 
-content-ended : (n : ℕ) (k : Layout) (bs : List ℕ) → contentAs n k bs ≡ ended n (fieldsAs n k bs)
+content-ended : (ed : Edition) (n : ℕ) (k : Layout) (bs : List ℕ) → contentAs ed n k bs ≡ ended n (fieldsAs ed n k bs)
 unfolding contentAs
-content-ended n (sole s) bs = refl
-content-ended n (many h m s) bs = refl
-content-ended n opaque bs = refl
+content-ended ed n (sole s) bs = refl
+content-ended ed n (many h m s) bs = refl
+content-ended ed n opaque bs = refl
 
-module _ (k : Layout) (l : List ℕ) where
-  pub content-no : {g : Refusal} → Refuses (fieldsAs (length l) k (drop 4 l)) g → Refuses (contentAs (length l) k (drop 4 l)) g
-  content-no x = record { reads = content-ended (length l) k (drop 4 l) ∙ rw (x .reads) }
+module _ (ed : Edition) (k : Layout) (l : List ℕ) where
+  pub content-no : {g : Refusal} → Refuses (fieldsAs ed (length l) k (drop 4 l)) g → Refuses (contentAs ed (length l) k (drop 4 l)) g
+  content-no x = record { reads = content-ended ed (length l) k (drop 4 l) ∙ rw (x .reads) }
 
-  module _ {out out′ : List ℕ} {place at : ℕ} (x : Held bitsIn l (fieldsAs (length l) k (drop 4 l)) 0 out place at out′) where
-    pub content-over : place < length l → Refuses (contentAs (length l) k (drop 4 l)) (refuse 23 place 0)
+  module _ {out out′ : List ℕ} {place at : ℕ} (x : Held (bitsIn ed) l (fieldsAs ed (length l) k (drop 4 l)) 0 out place at out′) where
+    pub content-over : place < length l → Refuses (contentAs ed (length l) k (drop 4 l)) (refuse 23 place 0)
     content-over h =
         let e : length l - length (drop place l) ≡ place = omega (arith, length-drop place l) in
-        record { reads = content-ended (length l) k (drop 4 l) ∙ rw (x .reads, ne-eqb (length (drop place l)) 0 (λ z. omega (arith, length-drop place l)), e) }
+        record { reads = content-ended ed (length l) k (drop 4 l) ∙ rw (x .reads, ne-eqb (length (drop place l)) 0 (λ z. omega (arith, length-drop place l)), e) }
 
-    pub content-held : length l ≤ place → Held bitsIn l (contentAs (length l) k (drop 4 l)) 0 out place at out′
+    pub content-held : length l ≤ place → Held (bitsIn ed) l (contentAs ed (length l) k (drop 4 l)) 0 out place at out′
     content-held h =
         let z : drop place l ≡ [] = drop-of-length-le l {i = place} h in
         record {
           what = x .what;
-          reads = content-ended (length l) k (drop 4 l) ∙ rw (x .reads, z);
+          reads = content-ended ed (length l) k (drop 4 l) ∙ rw (x .reads, z);
           size = x .size;
           bits = x .bits;
           within = x .within;

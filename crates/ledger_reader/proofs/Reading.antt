@@ -1,23 +1,23 @@
 -- What the ledger reader answers and leaves, by the ledger's measure and what is laid the second time.
 -- Assumes nothing.
 use Prim.Native.Nat.{ℕ, _+_, _≤_, _<_}
-use mathlib.Core.Path.{_≡_, refl, sym, ap, _∙_}
+use mathlib.Core.Path.{_≡_, refl, sym, ap, _∙_, subst}
 use mathlib.Core.List.{List, [], _∷_, _++_}
 use native.Mathlib.Omega.{arith}
 use lib.ListN.{length, drop, length-append}
 use borrow.Author.Tests.{le-leb, lt-leb}
 use Rattle.format.specs.Digits.{digits, Below, bitsOf, bytesOf, splice}
 use Rattle.format.specs.Refusals.{refuse}
-use Rattle.format.specs.Syntax.{Parse, got, refused, andThen}
-use Rattle.format.specs.Whole.{layout, Table, plainOf, contentOf, ledgerOf, contentAs, idOf, ledgerRead}
+use Rattle.format.specs.Syntax.{Edition, Parse, got, refused, andThen}
+use Rattle.format.specs.Whole.{layout, Layout, Table, bodyOf, contentOf, version, ledgerOf, contentAs, idOf, editionOf, ledgerRead}
 use Rattle.format.specs.Calls.{answer, left, restored, readAnswer, readLeft}
 use Rattle.format.specs.declared.Refusal.{Refusal}
 use Rattle.format.specs.declared.Answer.{Answer}
 use Rattle.format.specs.declared.Answer.the-variants.{Done, Refused}
 use Rattle.format.proofs.DigitLaws.{length-digits, length-bits, bytes-bits, below-append, below-drop}
 use Rattle.format.proofs.ParseLaws.{got-not-refused}
-use Rattle.format.proofs.TableLaws.{fine-layout, GoodTable, plain-bytes, content-again}
-use Rattle.format.proofs.Demand.{ledger-all, read-accepted, accepted-good, ledger-length}
+use Rattle.format.proofs.TableLaws.{FineLayout, fine-layout, GoodTable, formOf, kept-formOf, good-formOf, kept-bytes, content-again}
+use Rattle.format.proofs.Demand.{ledger-all, ledger-again, read-accepted, accepted-good, ledger-length}
 use Rattle.bits.proofs.Groups.{bits-splice}
 use Rattle.bits.proofs.Splices.{length-splice}
 use Rattle.runs.specs.declared.Step.{Step}
@@ -26,7 +26,7 @@ use Rattle.ledger_reader.specs.Held.{Framed, bitsIn, Holds}
 use Rattle.ledger_reader.specs.Measured.{measured, measureOf, measureRefusal}
 use Rattle.ledger_reader.specs.declared.Measure.{Measure}
 use Rattle.ledger_reader.specs.declared.Measure.the-variants as measure
-use Rattle.ledger_reader.proofs.Measuring.{plain-bits}
+use Rattle.ledger_reader.proofs.Measuring.{body-bits}
 
 -- ---- bytes by their bits
 
@@ -44,19 +44,22 @@ bytes-front : (out out′ b : List ℕ) → Below 256 out → Below 256 out′ �
 bytes-front out out′ b ho ho′ hb n m e =
     bits-same out′ (splice out 0 b) ho′ (below-front out b ho hb) (n ∙ sym (length-splice out 0 b (omega arith))) (e ∙ sym (bits-splice out 0 b))
 
+body-bytes : {k : Layout} {t : Table} (ed : Edition) → FineLayout k → GoodTable k t → Below 256 (bodyOf ed t)
+body-bytes {t = t} ed x g = subst (Below 256) (kept-formOf ed t) (kept-bytes (good-formOf ed x g))
+
 -- ---- a ledger that has a measure
 
 pub record Sized (l : List ℕ) (id n : ℕ) : Type 0 where
   pub table : Table
   pub reads : ledgerRead l ≡ got table []
   pub same : id ≡ idOf l
-  pub size : n ≡ length (plainOf table)
+  pub size : n ≡ length (bodyOf (editionOf l) table)
 
 pub has-size : {l : List ℕ} {m : Measure} {id n : ℕ} → m ≡ measure.Size id n → m ≡ measureOf l → Sized l id n
 unfolding measureOf restored
 has-size {l} {m} {id} {n} q e = go (ledgerRead l) refl (sym q ∙ e)
   where
-    go : (p : Parse Table) → ledgerRead l ≡ p → measure.Size id n ≡ measured (idOf l) (andThen p (λ t rest. got (plainOf t) [])) → Sized l id n
+    go : (p : Parse Table) → ledgerRead l ≡ p → measure.Size id n ≡ measured (idOf l) (andThen p (λ t rest. got (bodyOf (editionOf l) t) [])) → Sized l id n
     go (got t rest) r z = record { table = t; reads = r ∙ ap (got t) (ledger-all l r); same = cc; size = cc }
     go (refused x y w) r z = let o : _≡_ {A = ℕ} 0 1 = cc in absurd (omega arith)
 
@@ -70,20 +73,22 @@ module _ {l : List ℕ} {id n : ℕ} (x : Sized l id n) (b : Below 256 l) where
       let t = x .table in
       let a = read-accepted l t b (x .reads) in
       let c = accepted-good (a .0) in
-      let z : length (ledgerOf (idOf l) t) ≡ length l = ap length (a .1) in
+      let z : length (ledgerOf (editionOf l) (idOf l) t) ≡ length l = ap length (a .1) in
       record {
-        four = omega (arith, z, length-append (digits 256 2 (length (contentOf t) + 2)) (1 ∷ idOf l ∷ contentOf t), length-digits 256 2 (length (contentOf t) + 2));
-        short = omega (arith, z, ledger-length (a .0), c .1, c .2);
+        four = omega (arith, z, length-append (digits 256 2 (length (contentOf (editionOf l) t) + 2)) (version (editionOf l) ∷ idOf l ∷ contentOf (editionOf l) t), length-digits 256 2 (length (contentOf (editionOf l) t) + 2));
+        short = omega (arith, z, ledger-length (editionOf l) (a .0), c .1, c .2);
       }
 
-  content : contentAs (length l) (layout (idOf l)) (drop 4 l) ≡ got (x .table) []
+  content : contentAs (editionOf l) (length l) (layout (idOf l)) (drop 4 l) ≡ got (x .table) []
   unfolding ledgerOf digits
   content =
       let t = x .table in
       let a = read-accepted l t b (x .reads) in
       let c = accepted-good (a .0) in
-      let d : drop 4 l ≡ contentOf t = ap (drop 4) (sym (a .1)) in
-      rw d (content-again (length l) (fine-layout (idOf l)) good (omega (arith, c .1, c .2)))
+      let q : got (formOf (editionOf l) t) [] ≡ got t [] = sym (ledger-again (editionOf l) (a .0)) ∙ ap ledgerRead (a .1) ∙ x .reads in
+      let z : formOf (editionOf l) t ≡ t = cc in
+      let d : drop 4 l ≡ contentOf (editionOf l) t = ap (drop 4) (sym (a .1)) in
+      rw d (content-again (editionOf l) (length l) (fine-layout (idOf l)) good (omega (arith, c .1, c .2)) ∙ ap (λ (k : Table). got k []) z)
 
 -- ---- the answer, and what is left in the buffer
 
@@ -94,8 +99,8 @@ pub says-no : {m : Measure} {f g : Refusal} (l out : List ℕ) → m ≡ measure
 unfolding measureOf measureRefusal restored readAnswer readLeft answer left
 says-no {m} {f} {g} l out q e z = rw (z ∙ ap measureRefusal q) (go (ledgerRead l) (sym q ∙ e))
   where
-    go : (p : Parse Table) → measure.Refused g ≡ measured (idOf l) (andThen p (λ t rest. got (plainOf t) []))
-        → (Refused g ≡ answer (idOf l) (length out) (andThen p (λ t rest. got (plainOf t) []))) × (out ≡ left out (andThen p (λ t rest. got (plainOf t) [])))
+    go : (p : Parse Table) → measure.Refused g ≡ measured (idOf l) (andThen p (λ t rest. got (bodyOf (editionOf l) t) []))
+        → (Refused g ≡ answer (idOf l) (length out) (andThen p (λ t rest. got (bodyOf (editionOf l) t) []))) × (out ≡ left out (andThen p (λ t rest. got (bodyOf (editionOf l) t) [])))
     go (got t rest) z = let o : _≡_ {A = ℕ} 0 1 = cc in absurd (omega arith)
     go (refused x y w) z = let f : g ≡ refuse x y w = cc in (ap Refused f, refl)
 
@@ -105,23 +110,23 @@ module _ {l : List ℕ} {id n : ℕ} (x : Sized l id n) (out : List ℕ) where
   says-short h = (rw (x .reads, ← x .size, lt-leb n (length out) h), rw (x .reads, ← x .size, lt-leb n (length out) h))
 
   -- the second time, the same table is laid
-  again : (out′ : List ℕ) (r : Step) → contentAs (length l) (layout (idOf l)) (drop 4 l) ≡ got (x .table) [] → bitsOf (plainOf (x .table)) ≡ bitsIn (x .table) → n ≤ length out
-      → Holds bitsIn l (contentAs (length l) (layout (idOf l)) (drop 4 l)) 0 out out′ r → bitsOf out′ ≡ splice (bitsOf out) 0 (bitsOf (plainOf (x .table)))
+  again : (out′ : List ℕ) (r : Step) → contentAs (editionOf l) (length l) (layout (idOf l)) (drop 4 l) ≡ got (x .table) [] → bitsOf (bodyOf (editionOf l) (x .table)) ≡ bitsIn (editionOf l) (x .table) → n ≤ length out
+      → Holds (bitsIn (editionOf l)) l (contentAs (editionOf l) (length l) (layout (idOf l)) (drop 4 l)) 0 out out′ r → bitsOf out′ ≡ splice (bitsOf out) 0 (bitsOf (bodyOf (editionOf l) (x .table)))
   again out′ (step.Done a q v) c p m y =
       let z = y .to in
       let e : got (z .what) (drop q l) ≡ got (x .table) [] = sym (z .reads) ∙ c in
       let w : z .what ≡ x .table = cc in
-      let f : bitsIn (z .what) ≡ bitsOf (plainOf (x .table)) = ap bitsIn w ∙ sym p in
-      z .bits (omega (arith, z .size, ap length f, length-bits (plainOf (x .table)), x .size)) ∙ ap (splice (bitsOf out) 0) f
+      let f : bitsIn (editionOf l) (z .what) ≡ bitsOf (bodyOf (editionOf l) (x .table)) = ap (bitsIn (editionOf l)) w ∙ sym p in
+      z .bits (omega (arith, z .size, ap length f, length-bits (bodyOf (editionOf l) (x .table)), x .size)) ∙ ap (splice (bitsOf out) 0) f
   again out′ (step.Refused g) c p m y = absurd (got-not-refused (sym c ∙ y .to .reads))
 
   pub says-yes : {out′ : List ℕ} {r : Step} → Below 256 l → Below 256 out → Below 256 out′ → length out′ ≡ length out → n ≤ length out
-      → Holds bitsIn l (contentAs (length l) (layout id) (drop 4 l)) 0 out out′ r → Says l out (Done id n) out′
+      → Holds (bitsIn (editionOf l)) l (contentAs (editionOf l) (length l) (layout id) (drop 4 l)) 0 out out′ r → Says l out (Done id n) out′
   unfolding restored readAnswer readLeft answer left
   says-yes {out′} {r} b ho ho′ k m y =
       let t = x .table in
       let g = good x b in
       let i = x .same in
-      let o : out′ ≡ splice out 0 (plainOf t) =
-      bytes-front out out′ (plainOf t) ho ho′ (plain-bytes g) k (omega (arith, x .size)) (again out′ r (content x b) (plain-bits (fine-layout (idOf l)) g) m (rw i at y)) in
+      let o : out′ ≡ splice out 0 (bodyOf (editionOf l) t) =
+      bytes-front out out′ (bodyOf (editionOf l) t) ho ho′ (body-bytes (editionOf l) (fine-layout (idOf l)) g) k (omega (arith, x .size)) (again out′ r (content x b) (body-bits (editionOf l) (fine-layout (idOf l)) g) m (rw i at y)) in
       (rw (x .reads, ← x .size, le-leb n (length out) m, i), rw (x .reads, ← x .size, le-leb n (length out) m) o)

@@ -15,7 +15,7 @@ abbrev pub measured : ℕ → Parse (List ℕ) → Measure
 measured id (got xs rest) = Size id (length xs)
 measured id (refused number needed had) = Refused (refuse number needed had)
 
--- the table id that a ledger names and the length of its plain body, or the ledger's refusal
+-- the table id that a ledger names and the length of its body, plain or kept, or the ledger's refusal
 unfoldable pub measureOf : List ℕ → Measure
 measureOf l = measured (idOf l) (restored l)
 

@@ -1,13 +1,16 @@
-// The ledger reader: a ledger gone through from its first byte to its last, and laid as the plain body that it stands for.
+// The ledger reader: a ledger gone through from its first byte to its last, and laid as the body that it stands for:
+// plain in the first edition, kept in the second.
 // The same steps measure: with an empty buffer nothing is stored, and the answer is the same.
 ghost use mathlib.Core.Path.{_≡_};
+ghost use mathlib.Core.Bool.{_||_};
 ghost use Prim.Native.Nat.{_+_, _%_, _≤_};
+ghost use lib.Dec.{eqb};
 ghost use lib.ListN.{length, drop};
 ghost use Rattle.format.specs.Refusals.{refuse};
-ghost use Rattle.format.specs.Whole.{layout, plains, counted, contentAs};
+ghost use Rattle.format.specs.Whole.{layout, laids, counted, contentAs, known, editionFor};
 ghost use Rattle.format.specs.Calls.{readAnswer, readLeft};
 ghost use Rattle.runs.specs.Steps.{stored};
-ghost use Rattle.read_runs.specs.Came.{LedgerPlaced};
+ghost use Rattle.read_runs.specs.Came.{LedgerPlaced, wayOf};
 ghost use Rattle.read_plans.specs.Taken.{Taken};
 ghost use Rattle.ledger_reader.specs.Held.{entryOf, listing, fieldsAs, bitsIn, Listed, Framed, Holds};
 ghost use Rattle.ledger_reader.specs.Measured.{measureOf, measureRefusal};
@@ -36,11 +39,18 @@ fn refused_at(number: u8, place: usize) -> Refusal
     }
 }
 
-// One entry of a list, laid from the buffer's start on.
-fn read_entry(table_id: u8, ledger: &[u8], place: usize, out: &mut [u8]) -> Step
+// One entry of a list, laid from the buffer's start on, in the edition of a version; last: none follows it.
+fn read_entry(
+    version: u8,
+    last: bool,
+    table_id: u8,
+    ledger: &[u8],
+    place: usize,
+    out: &mut [u8],
+) -> Step
     requires { ⌜ LedgerPlaced (now ledger) place 8 ⌝ }
     requires { ⌜ Listed «table_id» ⌝ }
-    ensures { λ r. ⌜ Taken (now (ledger .entry)) (entryOf «table_id») place 0 (now (out .entry)) (now (out .exit)) r ⌝ }
+    ensures { λ r. ⌜ Taken (wayOf (editionFor version) last) (now (ledger .entry)) (entryOf «table_id») place 0 (now (out .entry)) (now (out .exit)) r ⌝ }
 {
     if table_id == 0 {
         return read_position(ledger, place, out, 0);
@@ -49,7 +59,7 @@ fn read_entry(table_id: u8, ledger: &[u8], place: usize, out: &mut [u8]) -> Step
         return read_fragment(ledger, place, out, 0);
     }
     if table_id == 3 {
-        return read_plan(ledger, place, out, 0);
+        return read_plan(ledger, place, version, last, out, 0);
     }
     read_position3(ledger, place, out, 0)
 }
@@ -57,6 +67,7 @@ fn read_entry(table_id: u8, ledger: &[u8], place: usize, out: &mut [u8]) -> Step
 // So many entries from a place on, up to the first that is refused. Each is laid in the part of the buffer that starts
 // where the last one ended.
 fn read_entries(
+    version: u8,
     table_id: u8,
     ledger: &[u8],
     place: usize,
@@ -67,14 +78,15 @@ fn read_entries(
     requires { ⌜ LedgerPlaced (now ledger) place (at + 8) ⌝ }
     requires { ⌜ at % 8 ≡ 0 ⌝ }
     requires { ⌜ Listed «table_id» ⌝ }
-    ensures { λ r. ⌜ Holds plains (now (ledger .entry)) (counted (length (now (ledger .entry))) (entryOf «table_id») count (drop place (now (ledger .entry)))) at (now (out .entry)) (now (out .exit)) r ⌝ }
+    ensures { λ r. ⌜ Holds (laids (editionFor version)) (now (ledger .entry)) (counted (editionFor version) (length (now (ledger .entry))) (entryOf «table_id») count (drop place (now (ledger .entry)))) at (now (out .entry)) (now (out .exit)) r ⌝ }
 {
     let mut here = at;
     let mut there = place;
     let mut i: u64 = 0;
     while i < count {
         let from = byte_of(here, out.len());
-        let entry = read_entry(table_id, ledger, there, &mut out[from..]);
+        let last = i + 1 == count;
+        let entry = read_entry(version, last, table_id, ledger, there, &mut out[from..]);
         let Step::Done {
             at: bits,
             place: p,
@@ -95,17 +107,24 @@ fn read_entries(
 }
 
 // The entries behind their 2-byte count.
-fn read_list(table_id: u8, ledger: &[u8], place: usize, out: &mut [u8], at: usize) -> Step
+fn read_list(
+    version: u8,
+    table_id: u8,
+    ledger: &[u8],
+    place: usize,
+    out: &mut [u8],
+    at: usize,
+) -> Step
     requires { ⌜ LedgerPlaced (now ledger) place (at + 8) ⌝ }
     requires { ⌜ at % 8 ≡ 0 ⌝ }
     requires { ⌜ Listed «table_id» ⌝ }
-    ensures { λ r. ⌜ Holds plains (now (ledger .entry)) (listing (length (now (ledger .entry))) (entryOf «table_id») (drop place (now (ledger .entry)))) at (now (out .entry)) (now (out .exit)) r ⌝ }
+    ensures { λ r. ⌜ Holds (laids (editionFor version)) (now (ledger .entry)) (listing (editionFor version) (length (now (ledger .entry))) (entryOf «table_id») (drop place (now (ledger .entry)))) at (now (out .entry)) (now (out .exit)) r ⌝ }
 {
     if ledger.len() - place < 2 {
         return Step::Refused(refused_at(23, place));
     }
     let count = get_be(ledger, place, 2);
-    read_entries(table_id, ledger, place + 2, count, out, at)
+    read_entries(version, table_id, ledger, place + 2, count, out, at)
 }
 
 // Ids 5 to 255: the bytes behind the table id are the body. They are stored where there is room for all of them,
@@ -118,9 +137,9 @@ fn copy_opaque(ledger: &[u8], out: &mut [u8])
 }
 
 // A table's fields, by its id; bytes may be over.
-fn read_fields(table_id: u8, ledger: &[u8], out: &mut [u8]) -> Step
+fn read_fields(version: u8, table_id: u8, ledger: &[u8], out: &mut [u8]) -> Step
     requires { ⌜ Framed (now ledger) ⌝ }
-    ensures { λ r. ⌜ Holds bitsIn (now (ledger .entry)) (fieldsAs (length (now (ledger .entry))) (layout «table_id») (drop 4 (now (ledger .entry)))) 0 (now (out .entry)) (now (out .exit)) r ⌝ }
+    ensures { λ r. ⌜ Holds (bitsIn (editionFor version)) (now (ledger .entry)) (fieldsAs (editionFor version) (length (now (ledger .entry))) (layout «table_id») (drop 4 (now (ledger .entry)))) 0 (now (out .entry)) (now (out .exit)) r ⌝ }
 {
     if 4 < table_id {
         copy_opaque(ledger, out);
@@ -138,17 +157,17 @@ fn read_fields(table_id: u8, ledger: &[u8], out: &mut [u8]) -> Step
         let Step::Done { at, place, last: _ } = header else {
             return header;
         };
-        return read_list(table_id, ledger, place, out, at);
+        return read_list(version, table_id, ledger, place, out, at);
     }
-    read_list(table_id, ledger, 4, out, 0)
+    read_list(version, table_id, ledger, 4, out, 0)
 }
 
 // All that follows a ledger's table id: the fields, and nothing over.
-fn read_content(table_id: u8, ledger: &[u8], out: &mut [u8]) -> Step
+fn read_content(version: u8, table_id: u8, ledger: &[u8], out: &mut [u8]) -> Step
     requires { ⌜ Framed (now ledger) ⌝ }
-    ensures { λ r. ⌜ Holds bitsIn (now (ledger .entry)) (contentAs (length (now (ledger .entry))) (layout «table_id») (drop 4 (now (ledger .entry)))) 0 (now (out .entry)) (now (out .exit)) r ⌝ }
+    ensures { λ r. ⌜ Holds (bitsIn (editionFor version)) (now (ledger .entry)) (contentAs (editionFor version) (length (now (ledger .entry))) (layout «table_id») (drop 4 (now (ledger .entry)))) 0 (now (out .entry)) (now (out .exit)) r ⌝ }
 {
-    let fields = read_fields(table_id, ledger, out);
+    let fields = read_fields(version, table_id, ledger, out);
     let Step::Done {
         at,
         place: end,
@@ -167,13 +186,23 @@ fn read_content(table_id: u8, ledger: &[u8], out: &mut [u8]) -> Step
     }
 }
 
-// What a ledger stands for: its table id and the length of the plain body, or why it is refused.
+// What a ledger stands for: its table id and the length of the body, or why it is refused.
 pub enum Measure {
     Size { table_id: u8, length: usize },
     Refused(Refusal),
 }
 
-// The table id and the length of the plain body of a ledger: no buffer is needed for them.
+// Whether a version is that of an edition.
+fn is_known(version: u8) -> bool
+    ensures { λ r. ⌜ r ≡ known version ⌝ }
+{
+    if version == 1 {
+        return true;
+    }
+    version == 2
+}
+
+// The table id and the length of the body of a ledger: no buffer is needed for them.
 pub fn ledger_measure(ledger: &[u8]) -> Measure
     ensures { λ r. ⌜ r ≡ measureOf (now (ledger .entry)) ⌝ }
 {
@@ -183,12 +212,13 @@ pub fn ledger_measure(ledger: &[u8]) -> Measure
     if get_be(ledger, 0, 2) != (ledger.len() - 2) as u64 {
         return Measure::Refused(refused_at(23, 0));
     }
-    if ledger[2] != 1 {
+    let version = ledger[2];
+    if !is_known(version) {
         return Measure::Refused(refused_at(24, 2));
     }
     let table_id = ledger[3];
     let mut none: [u8; 0] = [];
-    let content = read_content(table_id, ledger, &mut none);
+    let content = read_content(version, table_id, ledger, &mut none);
     let Step::Done {
         at: bits,
         place: _,
@@ -225,7 +255,7 @@ pub fn measure_refusal(measure: Measure) -> Refusal
     }
 }
 
-// The plain body of a ledger, stored from the buffer's start on where there is room for it.
+// The body of a ledger, stored from the buffer's start on where there is room for it.
 pub fn ledger_read(ledger: &[u8], out: &mut [u8]) -> Answer
     ensures { λ r. ⌜ (r ≡ readAnswer (now (ledger .entry)) (length (now (out .entry)))) × (now (out .exit) ≡ readLeft (now (ledger .entry)) (now (out .entry))) ⌝ }
 {
@@ -241,6 +271,6 @@ pub fn ledger_read(ledger: &[u8], out: &mut [u8]) -> Answer
             have,
         });
     }
-    read_content(table_id, ledger, out);
+    read_content(ledger[2], table_id, ledger, out);
     Answer::Done { table_id, length }
 }

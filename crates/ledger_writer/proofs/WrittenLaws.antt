@@ -11,10 +11,10 @@ use borrow.Author.Tests.{le-leb, lt-leb, leb-true}
 use borrow.Rule.Slice.PartMut.{midOf, putMid, mid-len}
 use Rattle.format.specs.Digits.{digits, bitsOf, splice}
 use Rattle.format.specs.Refusals.{refuse}
-use Rattle.format.specs.Syntax.{Syntax, end, Field, Parse, got, refused, andThen}
+use Rattle.format.specs.Syntax.{Syntax, end, Field, Edition, Parse, got, refused, andThen}
 use Rattle.format.specs.Tables.{association, header}
 use Rattle.format.specs.Ledger.{ledger}
-use Rattle.format.specs.Whole.{many, opaque, layout, Table, one, list, asIs, readAs, bodyRead, contentOf, ledgerOf}
+use Rattle.format.specs.Whole.{many, opaque, layout, Table, one, list, asIs, readAs, bodyRead, contentOf, version, editionFor, ledgerOf}
 use Rattle.format.specs.Calls.{answer, left, filed, writeAnswer, writeLeft}
 use Rattle.format.specs.declared.Answer as answers
 use Rattle.format.specs.declared.Answer.the-variants as says
@@ -30,9 +30,9 @@ use Rattle.runs.specs.Steps.{refusalIn, stored}
 use Rattle.runs.specs.declared.Step.{Step}
 use Rattle.runs.specs.declared.Step.the-variants.{Done, Refused}
 use Rattle.runs.proofs.Stores.{stored-fits}
-use Rattle.write_runs.specs.Went.{Went, Ran}
+use Rattle.write_runs.specs.Went.{outside, Went, Ran}
 use Rattle.ledger_writer.specs.Listed.{entryOf, leastOf, listing, Listed}
-use Rattle.ledger_writer.specs.Written.{Filled, ContentIn, Content, sizeIn, sizeAnswer, sizeRefusal}
+use Rattle.ledger_writer.specs.Written.{Versioned, Filled, ContentIn, Content, sizeIn, sizeAnswer, sizeRefusal}
 use Rattle.ledger_writer.specs.declared.LedgerSize as sizes
 use Rattle.ledger_writer.specs.declared.LedgerSize.the-variants as sized
 use Rattle.ledger_writer.proofs.Listing.{went-got}
@@ -48,12 +48,12 @@ layout-opaque (suc (suc (suc zero))) h = absurd (omega arith)
 layout-opaque (suc (suc (suc (suc zero)))) h = absurd (omega arith)
 layout-opaque (suc (suc (suc (suc (suc n))))) h = refl
 
-pub as-is : {id : ℕ} {body out out′ : List ℕ} → 4 < id → out′ ≡ stored out 0 body → Filled body id out (length body) out′
+pub as-is : {ed : Edition} {id : ℕ} {body out out′ : List ℕ} → 4 < id → out′ ≡ stored out 0 body → Filled ed body id out (length body) out′
 unfolding readAs contentOf
-as-is {id} {body} {out} h b = record { t = asIs body; reads = rw (layout-opaque id h); size = refl; bytes = λ r. b ∙ stored-fits out 0 body (omega arith); small = omega arith }
+as-is {ed} {id} {body} {out} h b = record { t = asIs body; reads = rw (layout-opaque id h); size = refl; bytes = λ r. b ∙ stored-fits out 0 body (omega arith); small = omega arith }
 
 -- id 2: one set of fields
-pub once : {id : ℕ} {body out out′ : List ℕ} {r : Step} → id ≡ 2 → Ran body 0 association 0 0 out (λ _. end) out′ r → Content body id out out′ r
+pub once : {ed : Edition} {id : ℕ} {body out out′ : List ℕ} {r : Step} → id ≡ 2 → Ran body (outside ed) association 0 0 out (λ _. end) out′ r → Content ed body id out out′ r
 unfolding readAs contentOf
 once {body = body} {r = Done a p v} q x =
     let w = x .to in
@@ -69,12 +69,12 @@ once {body = body} {r = Done a p v} q x =
 once {r = Refused f} q x = rw q (record { to = record { reads = ap (λ (p : Parse (List Field)). andThen p (λ ts rest. got (one ts) [])) (x .to .reads) } })
 
 -- ids 0, 1, 3 and 4: a head, and entries behind it
-module _ {id : ℕ} {body : List ℕ} {head : Syntax} (is : layout id ≡ many head (leastOf id) (entryOf id)) where
-  pub listed : {out out₁ out₂ : List ℕ} {a p : ℕ} {r : Step} → Went body 0 head 0 0 out end a p out₁ → Listed body id a p out₁ out₂ r → Content body id out out₂ r
+module _ {ed : Edition} {id : ℕ} {body : List ℕ} {head : Syntax} (is : layout id ≡ many head (leastOf id) (entryOf id)) where
+  pub listed : {out out₁ out₂ : List ℕ} {a p : ℕ} {r : Step} → Went body (outside ed) head 0 0 out end a p out₁ → Listed ed body id a p out₁ out₂ r → Content ed body id out out₂ r
   unfolding readAs contentOf
   listed {out} {out₁} {p = p} {r = Done a₁ p₁ v} w x =
       let y = x .to in
-      let ll = length-append (ledger (w .ts)) (listing (y .es)) in
+      let ll = length-append (ledger ed (w .ts)) (listing ed (y .es)) in
       let z = w .size in
       let z₁ = y .size in
       record {
@@ -82,14 +82,14 @@ module _ {id : ℕ} {body : List ℕ} {head : Syntax} (is : layout id ≡ many h
           t = list (w .ts) (y .es);
           reads = rw (is, went-got w, y .reads);
           size = omega arith;
-          bytes = λ h. y .bytes (omega (arith, w .long)) ∙ ap (λ (m : List ℕ). splice m p (listing (y .es))) (w .bytes (omega arith))
-              ∙ splice-splice out 0 (ledger (w .ts)) (listing (y .es)) p (w .size) (omega arith);
+          bytes = λ h. y .bytes (omega (arith, w .long)) ∙ ap (λ (m : List ℕ). splice m p (listing ed (y .es))) (w .bytes (omega arith))
+              ∙ splice-splice out 0 (ledger ed (w .ts)) (listing ed (y .es)) p (w .size) (omega arith);
           small = y .behind;
         };
       }
   listed {r = Refused f} w x = record { to = record { reads = rw (is, went-got w, x .to .reads) } }
 
-  pub unheaded : {out out₂ : List ℕ} {f : Refusal} {r : Step} → r ≡ Refused f → Ran body 0 head 0 0 out (λ _. end) out₂ r → Content body id out out₂ r
+  pub unheaded : {out out₂ : List ℕ} {f : Refusal} {r : Step} → r ≡ Refused f → Ran body (outside ed) head 0 0 out (λ _. end) out₂ r → Content ed body id out out₂ r
   unfolding readAs
   unheaded {r = Done a p v} q x = let o : _≡_ {A = ℕ} 0 1 = cc in absurd (omega arith)
   unheaded {r = Refused g} q x = record { to = record { reads = rw (is, x .to .reads) } }
@@ -105,132 +105,132 @@ pub layout-headed : (id : ℕ) → id ≡ 4 → layout id ≡ many header (least
 layout-headed id q = rw q
 
 -- the header ends on a byte
-pub header-ends : {body out out′ : List ℕ} {a p : ℕ} → Went body 0 header 0 0 out end a p out′ → a % 8 ≡ 0
-header-ends {body} {a = a} w =
+pub header-ends : {ed : Edition} {body out out′ : List ℕ} {a p : ℕ} → Went body (outside ed) header 0 0 out end a p out′ → a % 8 ≡ 0
+header-ends {body = body} {a = a} w =
     let x = walk-laws.ended 64 header fine-header least-header (omega arith) body 0 (w .ts) (drop a (bitsOf body)) (omega arith) refl (went-got w) in
     omega (arith, x .byte, place-at body a (w .within))
 
 -- ---- the whole ledger
 
-module _ (id : ℕ) (body : List ℕ) where
-  filed-over : 4096 < length body → filed id body ≡ refused 21 (length body) 4096
+module _ (ed : Edition) (id : ℕ) (body : List ℕ) where
+  filed-over : 4096 < length body → filed ed id body ≡ refused 21 (length body) 4096
   unfolding filed bodyRead
   filed-over h = rw (lt-leb (length body) 4096 h)
 
-  filed-got : (t : Table) → length body ≤ 4096 → readAs (layout id) body ≡ got t [] → filed id body ≡ got (ledgerOf id t) []
+  filed-got : (t : Table) → length body ≤ 4096 → readAs (layout id) body ≡ got t [] → filed ed id body ≡ got (ledgerOf ed id t) []
   unfolding filed bodyRead
   filed-got t h e = rw (le-leb (length body) 4096 h, e)
 
-  filed-refused : (x y z : ℕ) → length body ≤ 4096 → readAs (layout id) body ≡ refused x y z → filed id body ≡ refused x y z
+  filed-refused : (x y z : ℕ) → length body ≤ 4096 → readAs (layout id) body ≡ refused x y z → filed ed id body ≡ refused x y z
   unfolding filed bodyRead
   filed-refused x y z h e = rw (le-leb (length body) 4096 h, e)
 
-length-ledgerOf : (id : ℕ) (t : Table) → length (ledgerOf id t) ≡ length (contentOf t) + 4
+length-ledgerOf : (ed : Edition) (id : ℕ) (t : Table) → length (ledgerOf ed id t) ≡ length (contentOf ed t) + 4
 unfolding ledgerOf
-length-ledgerOf id t = length-append (digits 256 2 (length (contentOf t) + 2)) (1 ∷ id ∷ contentOf t) ∙ omega (arith, length-digits 256 2 (length (contentOf t) + 2))
+length-ledgerOf ed id t = length-append (digits 256 2 (length (contentOf ed t) + 2)) (version ed ∷ id ∷ contentOf ed t) ∙ omega (arith, length-digits 256 2 (length (contentOf ed t) + 2))
 
 -- ---- how long it is
 
-pub size-over : (id : ℕ) (body : List ℕ) → 4096 < length body → sized.Refused (refuse 21 (length body) 4096) ≡ sizeAnswer id body
+pub size-over : (ed : Edition) (id : ℕ) (body : List ℕ) → 4096 < length body → sized.Refused (refuse 21 (length body) 4096) ≡ sizeAnswer ed id body
 unfolding sizeAnswer sizeIn
-size-over id body h = rw (filed-over id body h)
+size-over ed id body h = rw (filed-over ed id body h)
 
-pub size-no : {id : ℕ} {body part part′ : List ℕ} {f g : Refusal} {r : Step} → length body ≤ 4096 → r ≡ Refused f → Content body id part part′ r → g ≡ refusalIn r → sized.Refused g ≡ sizeAnswer id body
+pub size-no : {ed : Edition} {id : ℕ} {body part part′ : List ℕ} {f g : Refusal} {r : Step} → length body ≤ 4096 → r ≡ Refused f → Content ed body id part part′ r → g ≡ refusalIn r → sized.Refused g ≡ sizeAnswer ed id body
 unfolding sizeAnswer sizeIn refusalIn
 size-no {r = Done a p v} h q x e = let o : _≡_ {A = ℕ} 0 1 = cc in absurd (omega arith)
-size-no {id} {body} {r = Refused f} h q x e = rw (filed-refused id body (f .number) (f .need) (f .have) h (x .to .reads), e)
+size-no {ed} {id} {body} {r = Refused f} h q x e = rw (filed-refused ed id body (f .number) (f .need) (f .have) h (x .to .reads), e)
 
-pub content-done : {id a p v : ℕ} {body out out′ : List ℕ} {r : Step} → r ≡ Done a p v → Content body id out out′ r → Filled body id out p out′
-content-done {id} {body = body} {out} {out′} q x = subst (λ (r : Step). ContentIn body id out out′ r) q (x .to)
+pub content-done : {ed : Edition} {id a p v : ℕ} {body out out′ : List ℕ} {r : Step} → r ≡ Done a p v → Content ed body id out out′ r → Filled ed body id out p out′
+content-done {ed} {id} {body = body} {out} {out′} q x = subst (λ (r : Step). ContentIn ed body id out out′ r) q (x .to)
 
-pub size-yes : {id p : ℕ} {body part part′ : List ℕ} → length body ≤ 4096 → Filled body id part p part′ → sized.Size (p + 4) ≡ sizeAnswer id body
+pub size-yes : {ed : Edition} {id p : ℕ} {body part part′ : List ℕ} → length body ≤ 4096 → Filled ed body id part p part′ → sized.Size (p + 4) ≡ sizeAnswer ed id body
 unfolding sizeAnswer sizeIn
-size-yes {id} {p} {body} h x =
-    let n : length (ledgerOf id (x .t)) ≡ p + 4 = length-ledgerOf id (x .t) ∙ ap (λ (k : ℕ). k + 4) (sym (x .size)) in
-    rw (filed-got id body (x .t) h (x .reads), n)
+size-yes {ed} {id} {p} {body} h x =
+    let n : length (ledgerOf ed id (x .t)) ≡ p + 4 = length-ledgerOf ed id (x .t) ∙ ap (λ (k : ℕ). k + 4) (sym (x .size)) in
+    rw (filed-got ed id body (x .t) h (x .reads), n)
 
 -- ---- what the writer answers and leaves
 
-abbrev Says : ℕ → List ℕ → List ℕ → answers.Answer → List ℕ → Type 0
-Says id body out w out′ = (w ≡ writeAnswer id body (length out)) × (out′ ≡ writeLeft id body out)
+abbrev Says : Edition → ℕ → List ℕ → List ℕ → answers.Answer → List ℕ → Type 0
+Says ed id body out w out′ = (w ≡ writeAnswer ed id body (length out)) × (out′ ≡ writeLeft ed id body out)
 
 -- a body that is refused
-pub says-no : (id : ℕ) (body out : List ℕ) {f g : Refusal} {s : sizes.LedgerSize} → s ≡ sized.Refused f → s ≡ sizeAnswer id body → g ≡ sizeRefusal s → Says id body out (says.Refused g) out
+pub says-no : (ed : Edition) (id : ℕ) (body out : List ℕ) {f g : Refusal} {s : sizes.LedgerSize} → s ≡ sized.Refused f → s ≡ sizeAnswer ed id body → g ≡ sizeRefusal s → Says ed id body out (says.Refused g) out
 unfolding writeAnswer writeLeft sizeAnswer sizeRefusal answer left sizeIn
-says-no id body out {f} q e r = rw (r, q) (go (filed id body) (sym q ∙ e))
+says-no ed id body out {f} q e r = rw (r, q) (go (filed ed id body) (sym q ∙ e))
   where
     go : (p : Parse (List ℕ)) → sized.Refused f ≡ sizeIn p → (says.Refused f ≡ answer id (length out) p) × (out ≡ left out p)
     go (got xs rest) e = let o : _≡_ {A = ℕ} 0 1 = cc in absurd (omega arith)
     go (refused x y z) e = let g : f ≡ refuse x y z = cc in (ap says.Refused g, refl)
 
 -- what is known of a body that has a ledger
-pub record Known (id : ℕ) (body : List ℕ) (need : ℕ) : Type 0 where
+pub record Known (ed : Edition) (id : ℕ) (body : List ℕ) (need : ℕ) : Type 0 where
   pub t : Table
   pub short : length body ≤ 4096
   pub reads : readAs (layout id) body ≡ got t []
-  pub file : filed id body ≡ got (ledgerOf id t) []
-  pub size : length (ledgerOf id t) ≡ need
-  pub content : need ≡ length (contentOf t) + 4
+  pub file : filed ed id body ≡ got (ledgerOf ed id t) []
+  pub size : length (ledgerOf ed id t) ≡ need
+  pub content : need ≡ length (contentOf ed t) + 4
 
-pub known : {id : ℕ} {body : List ℕ} {need : ℕ} {s : sizes.LedgerSize} → s ≡ sized.Size need → s ≡ sizeAnswer id body → Known id body need
+pub known : {ed : Edition} {id : ℕ} {body : List ℕ} {need : ℕ} {s : sizes.LedgerSize} → s ≡ sized.Size need → s ≡ sizeAnswer ed id body → Known ed id body need
 unfolding sizeAnswer filed bodyRead sizeIn
-known {id} {body} {need} q e = go (bodyRead id body) refl (sym q ∙ e)
+known {ed} {id} {body} {need} q e = go (bodyRead id body) refl (sym q ∙ e)
   where
-    go : (p : Parse Table) → bodyRead id body ≡ p → sized.Size need ≡ sizeIn (andThen p (λ t rest. got (ledgerOf id t) [])) → Known id body need
+    go : (p : Parse Table) → bodyRead id body ≡ p → sized.Size need ≡ sizeIn (andThen p (λ t rest. got (ledgerOf ed id t) [])) → Known ed id body need
     go (refused x y z) b e = let o : _≡_ {A = ℕ} 0 1 = cc in absurd (omega arith)
     go (got t rest) b e =
         let c = cond-got (leb (length body) 4096) _ _ _ _ b in
         let h : length body ≤ 4096 = leb-true (length body) 4096 (c .0) in
         let r : readAs (layout id) body ≡ got t [] = c .1 ∙ ap (λ (k : List ℕ). got t k) (read-all (layout id) body (c .1)) in
-        let n : need ≡ length (ledgerOf id t) = cc in
-        record { t = t; short = h; reads = r; file = filed-got id body t h r; size = sym n; content = n ∙ length-ledgerOf id t }
+        let n : need ≡ length (ledgerOf ed id t) = cc in
+        record { t = t; short = h; reads = r; file = filed-got ed id body t h r; size = sym n; content = n ∙ length-ledgerOf ed id t }
 
 -- no room for it
-pub says-short : {id need : ℕ} {body out : List ℕ} → Known id body need → length out < need → Says id body out (says.Refused (refuse 22 need (length out))) out
+pub says-short : {ed : Edition} {id need : ℕ} {body out : List ℕ} → Known ed id body need → length out < need → Says ed id body out (says.Refused (refuse 22 need (length out))) out
 unfolding writeAnswer writeLeft answer left
 says-short {need = need} {out = out} k h = (rw (k .file, k .size, lt-leb need (length out) h), rw (k .file, k .size, lt-leb need (length out) h))
 
 -- what a second going through the body leaves is the same content
-again : (body out out′ : List ℕ) (id : ℕ) (t : Table) (r : Step) → readAs (layout id) body ≡ got t [] → Content body id out out′ r → length (contentOf t) ≤ length out
-    → out′ ≡ splice out 0 (contentOf t)
-again body out out′ id t (Done a p v) e x h =
+again : (ed : Edition) (body out out′ : List ℕ) (id : ℕ) (t : Table) (r : Step) → readAs (layout id) body ≡ got t [] → Content ed body id out out′ r → length (contentOf ed t) ≤ length out
+    → out′ ≡ splice out 0 (contentOf ed t)
+again ed body out out′ id t (Done a p v) e x h =
     let y = x .to in
     let q : got (y .t) [] ≡ got t [] = sym (y .reads) ∙ e in
     let z : y .t ≡ t = cc in
-    y .bytes (omega (arith, y .size, ap (λ (g : Table). length (contentOf g)) z)) ∙ ap (λ (g : Table). splice out 0 (contentOf g)) z
-again body out out′ id t (Refused f) e x h = absurd (got-not-refused (sym e ∙ x .to .reads))
+    y .bytes (omega (arith, y .size, ap (λ (g : Table). length (contentOf ed g)) z)) ∙ ap (λ (g : Table). splice out 0 (contentOf ed g)) z
+again ed body out out′ id t (Refused f) e x h = absurd (got-not-refused (sym e ∙ x .to .reads))
 
 byte : (v : ℕ) → v < 256 → digits 256 1 v ≡ v ∷ []
 unfolding digits
 byte v h = rw (div-one v, mod-eq-of-lt h)
 
 -- the four bytes in front of the content
-front : (id n : ℕ) (out m₁ m₂ m₃ : List ℕ) → id < 256 → 4 ≤ length out → m₁ ≡ splice out 0 (digits 256 2 n) → m₂ ≡ splice m₁ 2 (digits 256 1 1) → m₃ ≡ splice m₂ 3 (digits 256 1 id)
-    → m₃ ≡ splice out 0 (digits 256 2 n ++ (1 ∷ id ∷ []))
-front id n out m₁ m₂ m₃ h l e₁ e₂ e₃ =
+front : (v id n : ℕ) (out m₁ m₂ m₃ : List ℕ) → v < 256 → id < 256 → 4 ≤ length out → m₁ ≡ splice out 0 (digits 256 2 n) → m₂ ≡ splice m₁ 2 (digits 256 1 v) → m₃ ≡ splice m₂ 3 (digits 256 1 id)
+    → m₃ ≡ splice out 0 (digits 256 2 n ++ (v ∷ id ∷ []))
+front v id n out m₁ m₂ m₃ hv h l e₁ e₂ e₃ =
     let d : List ℕ = digits 256 2 n in
     let ld : length d ≡ 2 = length-digits 256 2 n in
-    let f₂ : m₂ ≡ splice out 0 (d ++ (1 ∷ [])) =
-    e₂ ∙ rw (byte 1 (omega arith), e₁) (splice-splice out 0 d (1 ∷ []) 2 (omega arith) (omega arith)) in
-    let l₂ = length-append d (1 ∷ []) in
-    e₃ ∙ rw (byte id h, f₂) (splice-splice out 0 (d ++ (1 ∷ [])) (id ∷ []) 3 (omega arith) (omega arith)) ∙ ap (splice out 0) (append-assoc d (1 ∷ []) (id ∷ []))
+    let f₂ : m₂ ≡ splice out 0 (d ++ (v ∷ [])) =
+    e₂ ∙ rw (byte v hv, e₁) (splice-splice out 0 d (v ∷ []) 2 (omega arith) (omega arith)) in
+    let l₂ = length-append d (v ∷ []) in
+    e₃ ∙ rw (byte id h, f₂) (splice-splice out 0 (d ++ (v ∷ [])) (id ∷ []) 3 (omega arith) (omega arith)) ∙ ap (splice out 0) (append-assoc d (v ∷ []) (id ∷ []))
 
 -- room for it: the front, and the content behind it
-pub says-yes : {id need : ℕ} {body m₁ m₂ m₃ part : List ℕ} {r : Step} (out : List ℕ) → id < 256 → Known id body need → need ≤ length out
-    → m₁ ≡ splice out 0 (digits 256 2 (need - 2)) → m₂ ≡ splice m₁ 2 (digits 256 1 1) → m₃ ≡ splice m₂ 3 (digits 256 1 id) → length m₃ ≡ length out
-    → Content body id (midOf 4 (length m₃ - 4) m₃) part r → Says id body out (says.Done id need) (putMid 4 (length m₃ - 4) m₃ part)
+pub says-yes : {v id need : ℕ} {body m₁ m₂ m₃ part : List ℕ} {r : Step} (out : List ℕ) → v < 256 → id < 256 → Versioned v → Known (editionFor v) id body need → need ≤ length out
+    → m₁ ≡ splice out 0 (digits 256 2 (need - 2)) → m₂ ≡ splice m₁ 2 (digits 256 1 v) → m₃ ≡ splice m₂ 3 (digits 256 1 id) → length m₃ ≡ length out
+    → Content (editionFor v) body id (midOf 4 (length m₃ - 4) m₃) part r → Says (editionFor v) id body out (says.Done id need) (putMid 4 (length m₃ - 4) m₃ part)
 unfolding writeAnswer writeLeft answer left ledgerOf
-says-yes {id} {need} {body} {m₁} {m₂} {m₃} {part} {r} out hi k l e₁ e₂ e₃ long y =
-    let c : List ℕ = contentOf (k .t) in
+says-yes {v} {id} {need} {body} {m₁} {m₂} {m₃} {part} {r} out hv hi vs k l e₁ e₂ e₃ long y =
+    let c : List ℕ = contentOf (editionFor v) (k .t) in
     let z = k .content in
     let d : List ℕ = digits 256 2 (need - 2) in
-    let head : List ℕ = d ++ (1 ∷ id ∷ []) in
-    let lh : length head ≡ 4 = length-append d (1 ∷ id ∷ []) ∙ omega (arith, length-digits 256 2 (need - 2)) in
+    let head : List ℕ = d ++ (v ∷ id ∷ []) in
+    let lh : length head ≡ 4 = length-append d (v ∷ id ∷ []) ∙ omega (arith, length-digits 256 2 (need - 2)) in
     let mid : length (midOf 4 (length m₃ - 4) m₃) ≡ length m₃ - 4 = mid-len 4 (length m₃) m₃ (omega arith) in
     let n : need - 2 ≡ length c + 2 = omega arith in
-    let all : putMid 4 (length m₃ - 4) m₃ part ≡ splice out 0 (ledgerOf id (k .t)) =
-    part-splice m₃ part c 4 (omega arith) (again body (midOf 4 (length m₃ - 4) m₃) part id (k .t) r (k .reads) y (omega arith))
-    ∙ ap (λ (m : List ℕ). splice m 4 c) (front id (need - 2) out m₁ m₂ m₃ hi (omega arith) e₁ e₂ e₃)
+    let all : putMid 4 (length m₃ - 4) m₃ part ≡ splice out 0 (ledgerOf (editionFor v) id (k .t)) =
+    part-splice m₃ part c 4 (omega arith) (again (editionFor v) body (midOf 4 (length m₃ - 4) m₃) part id (k .t) r (k .reads) y (omega arith))
+    ∙ ap (λ (m : List ℕ). splice m 4 c) (front v id (need - 2) out m₁ m₂ m₃ hv hi (omega arith) e₁ e₂ e₃)
     ∙ splice-splice out 0 head c 4 (omega arith) (omega arith)
-    ∙ ap (splice out 0) (append-assoc d (1 ∷ id ∷ []) c ∙ ap (λ (x : ℕ). digits 256 2 x ++ (1 ∷ id ∷ c)) n) in
+    ∙ ap (splice out 0) (append-assoc d (v ∷ id ∷ []) c ∙ ap (λ (x : ℕ). digits 256 2 x ++ (v ∷ id ∷ c)) n ∙ ap (λ (x : ℕ). digits 256 2 (length c + 2) ++ (x ∷ id ∷ c)) (sym vs)) in
     (rw (k .file, k .size, le-leb need (length out) l), rw (k .file, k .size, le-leb need (length out) l) all)

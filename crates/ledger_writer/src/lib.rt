@@ -1,13 +1,14 @@
-// The ledger of a body under its table id. The content is gone through twice: first with no buffer, for its size or the refusal,
-// and then with the buffer that is lent.
+// The ledger of a body under its table id, in either edition. The content is gone through twice: first with no buffer,
+// for its size or the refusal, and then with the buffer that is lent; a raw body's size is known without.
 ghost use mathlib.Core.Path.{_≡_};
 ghost use Prim.Native.Nat.{_+_, _%_, _≤_};
 ghost use lib.ListN.{length};
-ghost use Rattle.format.specs.Syntax.{end};
+ghost use Rattle.format.specs.Syntax.{end, edition-1, edition-2};
+ghost use Rattle.format.specs.Whole.{editionFor};
 ghost use Rattle.format.specs.Calls.{writeAnswer, writeLeft};
-ghost use Rattle.write_runs.specs.Went.{Placed, Ran};
+ghost use Rattle.write_runs.specs.Went.{outside, Placed, Ran};
 ghost use Rattle.ledger_writer.specs.Listed.{entryOf, leastOf, Listed};
-ghost use Rattle.ledger_writer.specs.Written.{Content, sizeAnswer, sizeRefusal};
+ghost use Rattle.ledger_writer.specs.Written.{Versioned, Content, sizeAnswer, sizeRefusal};
 use bits::put_be;
 use format::Answer;
 use format::Refusal;
@@ -30,10 +31,17 @@ pub enum LedgerSize {
 }
 
 // An entry of the tables that have entries: ids 0, 1, 3 and 4.
-fn write_entry(table_id: u8, body: &[u8], at: usize, out: &mut [u8], place: usize) -> Step
+fn write_entry(
+    version: u8,
+    table_id: u8,
+    body: &[u8],
+    at: usize,
+    out: &mut [u8],
+    place: usize,
+) -> Step
     requires { ⌜ Placed (now body) at place ⌝ }
     requires { ⌜ at % 8 ≡ 0 ⌝ }
-    ensures { λ r. ⌜ Ran (now (body .entry)) 0 (entryOf «table_id») at place (now (out .entry)) (λ _. end) (now (out .exit)) r ⌝ }
+    ensures { λ r. ⌜ Ran (now (body .entry)) (outside (editionFor version)) (entryOf «table_id») at place (now (out .entry)) (λ _. end) (now (out .exit)) r ⌝ }
 {
     if table_id == 0 {
         return write_position(body, at, out, place);
@@ -42,7 +50,7 @@ fn write_entry(table_id: u8, body: &[u8], at: usize, out: &mut [u8], place: usiz
         return write_fragment(body, at, out, place);
     }
     if table_id == 3 {
-        return write_plan(body, at, out, place);
+        return write_plan(body, at, version, out, place);
     }
     write_position3(body, at, out, place)
 }
@@ -64,10 +72,17 @@ fn least_of(table_id: u8) -> usize
 }
 
 // The entries from a bit place on, behind their 2-byte count.
-fn write_entries(table_id: u8, body: &[u8], start: usize, out: &mut [u8], place: usize) -> Step
+fn write_entries(
+    version: u8,
+    table_id: u8,
+    body: &[u8],
+    start: usize,
+    out: &mut [u8],
+    place: usize,
+) -> Step
     requires { ⌜ Placed (now body) start (place + 2) ⌝ }
     requires { ⌜ start % 8 ≡ 0 ⌝ }
-    ensures { λ r. ⌜ Listed (now (body .entry)) «table_id» start place (now (out .entry)) (now (out .exit)) r ⌝ }
+    ensures { λ r. ⌜ Listed (editionFor version) (now (body .entry)) «table_id» start place (now (out .entry)) (now (out .exit)) r ⌝ }
 {
     let bits = 8 * body.len();
     let least = least_of(table_id);
@@ -76,7 +91,7 @@ fn write_entries(table_id: u8, body: &[u8], start: usize, out: &mut [u8], place:
     let mut count: u64 = 0;
     while least <= bits - at {
         let from = within(there, out.len());
-        let entry = write_entry(table_id, body, at, &mut out[from..], 0);
+        let entry = write_entry(version, table_id, body, at, &mut out[from..], 0);
         let Step::Done {
             at: a,
             place: size,
@@ -98,9 +113,9 @@ fn write_entries(table_id: u8, body: &[u8], start: usize, out: &mut [u8], place:
 }
 
 // What stands behind a ledger's table id, where there is room for it; the place that it comes to is its size.
-fn write_content(table_id: u8, body: &[u8], out: &mut [u8]) -> Step
+fn write_content(version: u8, table_id: u8, body: &[u8], out: &mut [u8]) -> Step
     requires { ⌜ length (now body) ≤ 4096 ⌝ }
-    ensures { λ r. ⌜ Content (now (body .entry)) «table_id» (now (out .entry)) (now (out .exit)) r ⌝ }
+    ensures { λ r. ⌜ Content (editionFor version) (now (body .entry)) «table_id» (now (out .entry)) (now (out .exit)) r ⌝ }
 {
     if 4 < table_id {
         copy_bytes(body, out);
@@ -114,18 +129,19 @@ fn write_content(table_id: u8, body: &[u8], out: &mut [u8]) -> Step
         return write_association(body, 0, out, 0);
     }
     if table_id < 4 {
-        return write_entries(table_id, body, 0, out, 0);
+        return write_entries(version, table_id, body, 0, out, 0);
     }
     let head = write_header(body, 0, out, 0);
     let Step::Done { at, place, last: _ } = head else {
         return head;
     };
-    write_entries(table_id, body, at, out, place)
+    write_entries(version, table_id, body, at, out, place)
 }
 
-// How long the ledger of a body is: the content is gone through with no room, so that nothing is stored.
-pub fn ledger_size(table_id: u8, body: &[u8]) -> LedgerSize
-    ensures { λ r. ⌜ r ≡ sizeAnswer «table_id» (now (body .entry)) ⌝ }
+// How long the ledger of a body is in the edition of a version: the content is gone through with no room, so that
+// nothing is stored; a raw body is its own content.
+fn size_in(version: u8, table_id: u8, body: &[u8]) -> LedgerSize
+    ensures { λ r. ⌜ r ≡ sizeAnswer (editionFor version) «table_id» (now (body .entry)) ⌝ }
 {
     if 4096 < body.len() {
         return LedgerSize::Refused(Refusal {
@@ -134,8 +150,11 @@ pub fn ledger_size(table_id: u8, body: &[u8]) -> LedgerSize
             have: 4096,
         });
     }
+    if 4 < table_id {
+        return LedgerSize::Size(body.len() + 4);
+    }
     let mut none = [0u8; 0];
-    let content = write_content(table_id, body, &mut none);
+    let content = write_content(version, table_id, body, &mut none);
     let Step::Done {
         at: _,
         place: size,
@@ -161,11 +180,13 @@ pub fn size_refusal(size: LedgerSize) -> Refusal
     }
 }
 
-// The ledger of a body, at the start of the buffer, and its length; after a refusal the buffer is as it was.
-pub fn ledger_write(table_id: u8, body: &[u8], out: &mut [u8]) -> Answer
-    ensures { λ r. ⌜ (r ≡ writeAnswer «table_id» (now (body .entry)) (length (now (out .entry)))) × (now (out .exit) ≡ writeLeft «table_id» (now (body .entry)) (now (out .entry))) ⌝ }
+// The ledger of a body in the edition of a version, at the start of the buffer, and its length; after a refusal the
+// buffer is as it was.
+fn write_in(version: u8, table_id: u8, body: &[u8], out: &mut [u8]) -> Answer
+    requires { ⌜ Versioned version ⌝ }
+    ensures { λ r. ⌜ (r ≡ writeAnswer (editionFor version) «table_id» (now (body .entry)) (length (now (out .entry)))) × (now (out .exit) ≡ writeLeft (editionFor version) «table_id» (now (body .entry)) (now (out .entry))) ⌝ }
 {
-    let size = ledger_size(table_id, body);
+    let size = size_in(version, table_id, body);
     let LedgerSize::Size(need) = size else {
         return Answer::Refused(size_refusal(size));
     };
@@ -178,11 +199,39 @@ pub fn ledger_write(table_id: u8, body: &[u8], out: &mut [u8]) -> Answer
         });
     }
     put_be(out, 0, 2, (need - 2) as u64);
-    put_be(out, 2, 1, 1);
+    put_be(out, 2, 1, version as u64);
     put_be(out, 3, 1, table_id as u64);
-    write_content(table_id, body, &mut out[4..]);
+    write_content(version, table_id, body, &mut out[4..]);
     Answer::Done {
         table_id,
         length: need,
     }
+}
+
+// How long the ledger of a body is in edition 1.
+pub fn ledger_size(table_id: u8, body: &[u8]) -> LedgerSize
+    ensures { λ r. ⌜ r ≡ sizeAnswer edition-1 «table_id» (now (body .entry)) ⌝ }
+{
+    size_in(1, table_id, body)
+}
+
+// How long the ledger of a body is in edition 2.
+pub fn ledger_size_edition_2(table_id: u8, body: &[u8]) -> LedgerSize
+    ensures { λ r. ⌜ r ≡ sizeAnswer edition-2 «table_id» (now (body .entry)) ⌝ }
+{
+    size_in(2, table_id, body)
+}
+
+// The ledger of a body in edition 1.
+pub fn ledger_write(table_id: u8, body: &[u8], out: &mut [u8]) -> Answer
+    ensures { λ r. ⌜ (r ≡ writeAnswer edition-1 «table_id» (now (body .entry)) (length (now (out .entry)))) × (now (out .exit) ≡ writeLeft edition-1 «table_id» (now (body .entry)) (now (out .entry))) ⌝ }
+{
+    write_in(1, table_id, body, out)
+}
+
+// The ledger of a body in edition 2.
+pub fn ledger_write_edition_2(table_id: u8, body: &[u8], out: &mut [u8]) -> Answer
+    ensures { λ r. ⌜ (r ≡ writeAnswer edition-2 «table_id» (now (body .entry)) (length (now (out .entry)))) × (now (out .exit) ≡ writeLeft edition-2 «table_id» (now (body .entry)) (now (out .entry))) ⌝ }
+{
+    write_in(2, table_id, body, out)
 }

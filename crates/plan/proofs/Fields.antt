@@ -1,14 +1,17 @@
 -- The steps of a proof at a mode, behind the fields in front of it; and at a plan's fields, behind its head.
 -- Assumes nothing.
-use Prim.Native.Nat.{ℕ, _+_, _*_, _^_, _<_}
+use Prim.Native.Nat.{ℕ, _+_, _-_, _*_, _^_, _<_}
 use mathlib.Core.Path.{_≡_, refl, sym, ap, _∙_}
-use mathlib.Core.List.{List, _∷_}
+use mathlib.Core.Bool.{false, cond}
+use mathlib.Core.List.{List, [], _∷_, _++_}
 use native.Mathlib.Omega.{arith}
+use lib.Dec.{leb}
 use lib.ListN.{length}
-use Rattle.format.specs.Digits.{valueAt}
-use Rattle.format.specs.Syntax.{unsigned, Field, num, len}
+use lib.Text.{eqt}
+use Rattle.format.specs.Refusals.{refuse}
+use Rattle.format.specs.Syntax.{Name, unsigned, Field, num, filler}
 use Rattle.format.specs.Tables.{mode, hopping, beamhopping}
-use Rattle.format.specs.ByName.{firstBy, from}
+use Rattle.format.specs.ByName.{name, bitsIn, firstBy, from}
 use Rattle.format.specs.At.{read}
 use Rattle.format.specs.declared.Refusal.{Refusal}
 use Rattle.format.proofs.ReadLaws.{upto}
@@ -91,11 +94,29 @@ front-of {b} e h p l e1 m1 e2 m2 e3 m3 e4 m4 =
           (got-clock b e _ _ _ "time_of_application" _ e3 m3 l2 (got-clock b e _ _ _ "cycle_duration" _ e4 m4 l3 u)));
     }
 
+-- ---- the filler is none of a plan's other fields
+
+first-append : {A : Type 0} (f : Field → A) (none : A) (nm : Name) (ts us : List Field) → firstBy f none nm (ts ++ us) ≡ firstBy f (firstBy f none nm us) nm ts
+unfolding firstBy
+first-append f none nm [] us = refl
+first-append f none nm (t ∷ ts) us = ap (cond (eqt nm (name t)) (f t)) (first-append f none nm ts us)
+
+from-filler : (nm : Name) (p : ℕ) (ts : List Field) (fs : List ℕ) → eqt nm "filler" ≡ false → from nm p (ts ++ (filler fs ∷ [])) ≡ from nm p ts
+unfolding from
+from-filler nm p [] fs e = rw e
+from-filler nm p (t ∷ ts) fs e = ap (cond (eqt nm (name t)) p) (from-filler nm (p + bitsIn t) ts fs e)
+
+unfilled : (h : PlanHead) (p : ℕ) (ts : List Field) (fs : List ℕ) → planFrom h p (ts ++ (filler fs ∷ [])) ≡ planFrom h p ts
+unfolding planFrom modeBy firstBy
+unfilled h p ts fs = simp (first-append, from-filler "slot_transmission_on" p ts fs refl, from-filler "reserved" p ts fs refl)
+
+-- ---- behind the head
+
 -- e: the plan's end; p, q: where the plan starts, and where the fields behind its head do; id, r, v: the head's numbers
 module _ (b : List ℕ) (e p q id r v : ℕ) where
   abbrev pub ended : List Field → ℕ → BeamhoppingAnswer
   ended =
-      upto b e (λ ts n. Entry (planOf b p (num unsigned "beamhopping_time_plan_id" 32 id ∷ num unsigned "reserved_zero_future_use_4" 4 r ∷ len "plan_length" ∷ ts)) n) Refused
+      upto b "plan_length" v e (λ ts n. Entry (planOf p (num unsigned "beamhopping_time_plan_id" 32 id ∷ num unsigned "reserved_zero_future_use_4" 4 r ∷ ts)) n) Refused
 
   abbrev pub inside : BeamhoppingAnswer
   inside = fieldsAt b e (record { id = id; reserved = r; «plan_length» = v }) q
@@ -105,7 +126,6 @@ module _ (b : List ℕ) (e p q id r v : ℕ) where
     pub start : q ≡ p + 32 + 4 + 12
     pub place : Place b q
     pub small : v < 2 ^ 12
-    pub length-is : valueAt b (p + 32 + 4) 12 ≡ v
     pub past : (x : BeamhoppingAnswer) → x ≡ read b e hopping q ended Refused → x ≡ planAt b p
 
   -- what becomes of the fields' answer
@@ -118,7 +138,7 @@ module _ (b : List ℕ) (e p q id r v : ℕ) where
   through-all {x} h z w =
       h .past x
       (sub b e hopping q ended Refused (λ ts n. Entry (planFrom (record { id = id; reserved = r; «plan_length» = v }) q ts) n) Refused finally
-      (λ ts n. rw (h .start, h .length-is)) (λ f. refl) z w)
+      (λ ts n. rw (h .start) (ap (λ (pl : BeamhoppingPlan). cond (leb n e) (Entry pl (cond (leb e (8 * length b)) e (8 * length b))) (Refused (refuse 14 (n - e) 0))) (sym (unfilled _ _ ts _)))) (λ f. refl) z w)
 
   -- fields that were refused, or read
   pub cut-fields : {x y : BeamhoppingAnswer} {f g : Refusal} → Head → y ≡ inside → y ≡ Refused f → g ≡ planRefusal y → x ≡ Refused g → x ≡ planAt b p
@@ -136,12 +156,10 @@ head-of {b} {id} {r} {v} {n1} {n2} p l e1 m1 e2 m2 e3 m3 =
     let g1 = got-all _ p 32 _ _ e1 m1 in
     let g2 = got-all _ _ 4 _ _ e2 m2 in
     let g3 = got-all _ _ 12 _ _ e3 m3 in
-    let z : p + 32 + 4 ≡ n2 = omega (arith, g1, g2) in
     record {
       start = omega (arith, g1, g2, g3);
       place = record { short = l .short; within = omega (arith, g3) };
       small = got-lt _ _ 12 m3 e3;
-      length-is = ap (λ (k : ℕ). valueAt b k 12) z ∙ sym (g3 .value);
       past = λ x h. got b 0 p _ _ unsigned "beamhopping_time_plan_id" 32 _ e1 m1
           (got b 0 _ _ _ unsigned "reserved_zero_future_use_4" 4 _ e2 m2 (got-plan b 0 _ _ _ "plan_length" _ e3 m3 h));
     }

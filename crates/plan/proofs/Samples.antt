@@ -4,7 +4,7 @@ use Prim.Native.Nat.{ℕ}
 use mathlib.Core.Path.{_≡_, refl}
 use mathlib.Core.List.{List, _++_}
 use lib.ListN.{replicate}
-use Rattle.format.specs.Digits.{digits, value, valueAt, bitsOf}
+use Rattle.format.specs.Digits.{digits, value, bitsOf}
 use Rattle.format.specs.Refusals.{refuse}
 use Rattle.format.specs.Tables.{beamhopping}
 use Rattle.format.specs.Body.{readBody}
@@ -20,7 +20,7 @@ abbrev sample : ℕ → List ℕ
 sample n = replicate 4 0 ++ (digits 256 2 n ++ replicate 25 0)
 
 pub p7 : planAt (sample 24) 0 ≡ Refused (refuse 14 8 0)
-unfolding planAt read readBody beamhopping planOf planFrom planMode modeBy firstBy from digits value valueAt bitsOf
+unfolding planAt read readBody beamhopping planOf planFrom planMode modeBy firstBy from digits value bitsOf
 p7 = refl
 
 pub p8 : planAt (sample 25) 0
@@ -38,5 +38,5 @@ pub p8 : planAt (sample 25) 0
       «cycle_duration_reserved_zero_future_use» = 0;
       «plan_length» = 25;
     }) 248
-unfolding planAt read readBody beamhopping planOf planFrom planMode modeBy firstBy from digits value valueAt bitsOf
+unfolding planAt read readBody beamhopping planOf planFrom planMode modeBy firstBy from digits value bitsOf
 p8 = refl

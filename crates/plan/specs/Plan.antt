@@ -4,11 +4,10 @@ use Prim.Native.Nat.{ℕ, _-_}
 use mathlib.Core.Bool.{cond}
 use mathlib.Core.List.{List}
 use lib.Dec.{leb}
-use Rattle.format.specs.Digits.{valueAt}
 use Rattle.format.specs.Refusals.{refuse}
 use Rattle.format.specs.Syntax.{Field}
 use Rattle.format.specs.Tables.{beamhopping, hopping}
-use Rattle.format.specs.ByName.{the, from}
+use Rattle.format.specs.ByName.{the}
 use Rattle.format.specs.At.{read}
 use Rattle.format.specs.declared.Refusal.{Refusal}
 use Rattle.clocks.specs.Clocks.{clockBy}
@@ -54,11 +53,11 @@ planFrom h p ts =
     (clockBy "cycle_duration" ts)
     (modeBy p (the "time_plan_mode" ts) ts)
 
--- all of it; its length has no value among the fields, and is what the 12 bits at its place spell
-unfoldable pub planOf : List ℕ → ℕ → List Field → BeamhoppingPlan
-planOf b p ts =
+-- all of it
+unfoldable pub planOf : ℕ → List Field → BeamhoppingPlan
+planOf p ts =
     planFrom
-    (record { id = the "beamhopping_time_plan_id" ts; reserved = the "reserved_zero_future_use_4" ts; «plan_length» = valueAt b (from "plan_length" p ts) 12 })
+    (record { id = the "beamhopping_time_plan_id" ts; reserved = the "reserved_zero_future_use_4" ts; «plan_length» = the "plan_length" ts })
     p ts
 
 -- a plan whose fields end at n: refused by 14 where that is past the plan's end e; else reading goes on at e, or at the data's end
@@ -69,7 +68,7 @@ planClosed p n e all = cond (leb n e) (Entry p (cond (leb e all) e all)) (Refuse
 
 -- a plan, and behind its head
 unfoldable pub planAt : List ℕ → ℕ → BeamhoppingAnswer
-planAt b p = read b 0 beamhopping p (λ ts q. Entry (planOf b p ts) q) Refused
+planAt b p = read b 0 beamhopping p (λ ts q. Entry (planOf p ts) q) Refused
 
 unfoldable pub fieldsAt : List ℕ → ℕ → PlanHead → ℕ → BeamhoppingAnswer
 fieldsAt b e h p = read b e hopping p (λ ts q. Entry (planFrom h p ts) q) Refused

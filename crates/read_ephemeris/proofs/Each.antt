@@ -1,7 +1,7 @@
 -- The loop over ephemeris entries, and which parts of a satellite are whole bytes.
 -- Assumes nothing.
 use Prim.Native.Nat.{ℕ, suc, _+_, _-_, _%_, _≤_, _<_}
-use mathlib.Core.Path.{_≡_, refl, sym, _∙_, subst}
+use mathlib.Core.Path.{_≡_, refl, _∙_, subst}
 use mathlib.Core.Bool.{false}
 use mathlib.Core.List.{List}
 use native.Mathlib.Nat.{sub-zero}
@@ -13,7 +13,7 @@ use Rattle.format.specs.declared.Refusal.{Refusal}
 use Rattle.format.proofs.Good.{Fine, least-zero}
 use Rattle.runs.specs.declared.Step.{Step}
 use Rattle.runs.specs.declared.Step.the-variants.{Refused}
-use Rattle.read_runs.specs.Came.{LedgerPlaced, Came, Laid}
+use Rattle.read_runs.specs.Came.{LedgerPlaced, Way, someWay, Came, Laid}
 use Rattle.read_runs.proofs.CameLaws.{stay, go-on, then, stops}
 use Rattle.read_runs.proofs.Runs.{placed-on}
 
@@ -42,13 +42,13 @@ fine-ephemeris accel = ((tt, omega arith, fine-accelerated), (tt, omega arith, f
 
 -- where the entries stand: i of them are laid, and the others are left; f: what an entry adds to what follows it
 pub record Each (f : Syntax → Syntax) (count : ℕ) (l : List ℕ) (place at : ℕ) (out₀ : List ℕ) (there here i : ℕ) (out : List ℕ) : Type 0 where
-  pub came : (s : Syntax) → Came l (times count f s) place at out₀ (times (count - i) f s) there here out
+  pub came : (way : Way) (s : Syntax) → Came way l (times count f s) place at out₀ (times (count - i) f s) there here out
   pub placed : LedgerPlaced l there here
   pub long : length out ≡ length out₀
   pub aligned : here % 8 ≡ 0
 
 pub begin : {f : Syntax → Syntax} {l out : List ℕ} {place at : ℕ} (count : ℕ) → LedgerPlaced l place at → at % 8 ≡ 0 → Each f count l place at out place at 0 out
-begin count p h = record { came = λ s. rw (sub-zero count) (stay (p .within)); placed = p; long = refl; aligned = h }
+begin count p h = record { came = λ way s. rw (sub-zero count) (stay (p .within)); placed = p; long = refl; aligned = h }
 
 module _ {f : Syntax → Syntax} {count place at there here i : ℕ} {l out₀ out : List ℕ} (st : Each f count l place at out₀ there here i out) where
   module _ (h : i < count) where
@@ -57,20 +57,20 @@ module _ {f : Syntax → Syntax} {count place at there here i : ℕ} {l out₀ o
         let e : count - i ≡ suc (count - (i + 1)) = omega arith in
         rw e
 
-    pub turn : {a p : ℕ} {out′ : List ℕ} → ((s : Syntax) → Came l (f s) there here out s p a out′) → a % 8 ≡ 0 → Each f count l place at out₀ p a (i + 1) out′
+    pub turn : {a p : ℕ} {out′ : List ℕ} → ((way : Way) (s : Syntax) → Came way l (f s) there here out s p a out′) → a % 8 ≡ 0 → Each f count l place at out₀ p a (i + 1) out′
     turn {a} {p} {out′} w m =
         record {
-          came = λ s. let t : Syntax = times (count - (i + 1)) f s in go-on (st .came s) (subst (λ (z : Syntax). Came l z there here out t p a out′) (one-more s) (w t));
-          placed = placed-on (st .placed) (w end);
-          long = w end .long ∙ st .long;
+          came = λ way s. let t : Syntax = times (count - (i + 1)) f s in go-on (st .came way s) (subst (λ (z : Syntax). Came way l z there here out t p a out′) (one-more s) (w way t));
+          placed = placed-on (st .placed) (w someWay end);
+          long = w someWay end .long ∙ st .long;
           aligned = m;
         }
 
-    pub stop : {at₁ : ℕ} {out₁ out₂ out′ : List ℕ} {g : Refusal} {r : Step} → r ≡ Refused g → ((s : Syntax) → Laid l (f s) there at₁ out₁ (λ _. s) out₂ r)
-        → (s : Syntax) → Laid l (times count f s) place at out₀ (λ _. s) out′ r
-    stop {out′ = out′} {r = r} q y s = then (st .came s) (subst (λ (z : Syntax). Laid l z there here out (λ _. s) out′ r) (one-more s) (stops q (y _)))
+    pub stop : {at₁ : ℕ} {out₁ out₂ out′ : List ℕ} {g : Refusal} {r : Step} → r ≡ Refused g → ((way : Way) (s : Syntax) → Laid way l (f s) there at₁ out₁ (λ _. s) out₂ r)
+        → (way : Way) (s : Syntax) → Laid way l (times count f s) place at out₀ (λ _. s) out′ r
+    stop {out′ = out′} {r = r} q y way s = then (st .came way s) (subst (λ (z : Syntax). Laid way l z there here out (λ _. s) out′ r) (one-more s) (stops q (y way _)))
 
-  pub ended : count ≤ i → (s : Syntax) → Came l (times count f s) place at out₀ s there here out
-  ended h s =
+  pub ended : count ≤ i → (way : Way) (s : Syntax) → Came way l (times count f s) place at out₀ s there here out
+  ended h way s =
       let e : count - i ≡ 0 = omega arith in
-      rw e at (st .came s)
+      rw e at (st .came way s)

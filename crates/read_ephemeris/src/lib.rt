@@ -3,7 +3,7 @@ ghost use mathlib.Core.Path.{_≡_};
 ghost use Prim.Native.Nat.{ℕ, _+_, _%_};
 ghost use Rattle.format.specs.Syntax.{Name, Syntax, end};
 ghost use Rattle.format.specs.Tables.{times, header, usable, metadata, ephemeris, covariance, ephemerides, position3};
-ghost use Rattle.read_runs.specs.Came.{LedgerPlaced, Laid};
+ghost use Rattle.read_runs.specs.Came.{Way, LedgerPlaced, Laid};
 ghost use Rattle.read_ephemeris.specs.Flagged.{flagged};
 use read_runs::byte_of;
 use read_runs::read_run;
@@ -13,7 +13,7 @@ use runs::marks;
 // The header.
 pub fn read_header(ledger: &[u8], place: usize, out: &mut [u8], at: usize) -> Step
     requires { ⌜ LedgerPlaced (now ledger) place at ⌝ }
-    ensures { λ r. ⌜ Laid (now (ledger .entry)) header place at (now (out .entry)) (λ _. end) (now (out .exit)) r ⌝ }
+    ensures { λ r. ⌜ ((way : Way) → Laid way (now (ledger .entry)) header place at (now (out .entry)) (λ _. end) (now (out .exit)) r) ⌝ }
 {
     read_run(ledger, place, &marks::HEADER, out, at)
 }
@@ -21,7 +21,7 @@ pub fn read_header(ledger: &[u8], place: usize, out: &mut [u8], at: usize) -> St
 // A usable time, where its flag is set.
 fn read_usable(ledger: &[u8], place: usize, flag: u64, out: &mut [u8], at: usize) -> Step
     requires { ⌜ LedgerPlaced (now ledger) place at ⌝ }
-    ensures { λ r. ⌜ ((number : ℕ) (nm : Name) (s : Syntax) → Laid (now (ledger .entry)) (usable number nm flag s) place at (now (out .entry)) (λ _. s) (now (out .exit)) r) ⌝ }
+    ensures { λ r. ⌜ ((way : Way) (number : ℕ) (nm : Name) (s : Syntax) → Laid way (now (ledger .entry)) (usable number nm flag s) place at (now (out .entry)) (λ _. s) (now (out .exit)) r) ⌝ }
 {
     if flag == 1 {
         return read_run(ledger, place, &marks::STAMP, out, at);
@@ -39,7 +39,7 @@ fn read_metadata(
     at: usize,
 ) -> Step
     requires { ⌜ LedgerPlaced (now ledger) place at ⌝ }
-    ensures { λ r. ⌜ ((s : Syntax) → Laid (now (ledger .entry)) (metadata start stop s) place at (now (out .entry)) (λ _. s) (now (out .exit)) r) ⌝ }
+    ensures { λ r. ⌜ ((way : Way) (s : Syntax) → Laid way (now (ledger .entry)) (metadata start stop s) place at (now (out .entry)) (λ _. s) (now (out .exit)) r) ⌝ }
 {
     let times = read_run(ledger, place, &marks::METADATA, out, at);
     let Step::Done { at, place, .. } = times else {
@@ -55,7 +55,7 @@ fn read_metadata(
 // The covariance, where its flag is set: a stamp and 21 values.
 fn read_covariance(ledger: &[u8], place: usize, flag: u64, out: &mut [u8], at: usize) -> Step
     requires { ⌜ LedgerPlaced (now ledger) place at ⌝ }
-    ensures { λ r. ⌜ Laid (now (ledger .entry)) (covariance flag) place at (now (out .entry)) (λ _. end) (now (out .exit)) r ⌝ }
+    ensures { λ r. ⌜ ((way : Way) → Laid way (now (ledger .entry)) (covariance flag) place at (now (out .entry)) (λ _. end) (now (out .exit)) r) ⌝ }
 {
     if flag == 1 {
         return read_run(ledger, place, &marks::COVARIANCE, out, at);
@@ -66,7 +66,7 @@ fn read_covariance(ledger: &[u8], place: usize, flag: u64, out: &mut [u8], at: u
 // One ephemeris entry, laid from the buffer's start on; with acceleration where its flag is set.
 fn read_entry(ledger: &[u8], place: usize, accel: u64, out: &mut [u8]) -> Step
     requires { ⌜ LedgerPlaced (now ledger) place 0 ⌝ }
-    ensures { λ r. ⌜ ((s : Syntax) → Laid (now (ledger .entry)) (ephemeris accel s) place 0 (now (out .entry)) (λ _. s) (now (out .exit)) r) ⌝ }
+    ensures { λ r. ⌜ ((way : Way) (s : Syntax) → Laid way (now (ledger .entry)) (ephemeris accel s) place 0 (now (out .entry)) (λ _. s) (now (out .exit)) r) ⌝ }
 {
     if accel == 1 {
         return read_run(ledger, place, &marks::ACCELERATED, out, 0);
@@ -78,7 +78,7 @@ fn read_entry(ledger: &[u8], place: usize, accel: u64, out: &mut [u8]) -> Step
 fn read_each(ledger: &[u8], place: usize, accel: u64, count: u64, out: &mut [u8], at: usize) -> Step
     requires { ⌜ LedgerPlaced (now ledger) place at ⌝ }
     requires { ⌜ at % 8 ≡ 0 ⌝ }
-    ensures { λ r. ⌜ ((s : Syntax) → Laid (now (ledger .entry)) (times count (ephemeris accel) s) place at (now (out .entry)) (λ _. s) (now (out .exit)) r) ⌝ }
+    ensures { λ r. ⌜ ((way : Way) (s : Syntax) → Laid way (now (ledger .entry)) (times count (ephemeris accel) s) place at (now (out .entry)) (λ _. s) (now (out .exit)) r) ⌝ }
 {
     let mut here = at;
     let mut there = place;
@@ -116,7 +116,7 @@ fn read_ephemerides(
 ) -> Step
     requires { ⌜ LedgerPlaced (now ledger) place at ⌝ }
     requires { ⌜ at % 8 ≡ 0 ⌝ }
-    ensures { λ r. ⌜ Laid (now (ledger .entry)) (ephemerides accel cov) place at (now (out .entry)) (λ _. end) (now (out .exit)) r ⌝ }
+    ensures { λ r. ⌜ ((way : Way) → Laid way (now (ledger .entry)) (ephemerides accel cov) place at (now (out .entry)) (λ _. end) (now (out .exit)) r) ⌝ }
 {
     let head = read_run(ledger, place, &marks::EPHEMERIS_COUNT, out, at);
     let Step::Done {
@@ -146,7 +146,7 @@ fn read_flagged(
 ) -> Step
     requires { ⌜ LedgerPlaced (now ledger) place at ⌝ }
     requires { ⌜ (at + 2) % 8 ≡ 0 ⌝ }
-    ensures { λ r. ⌜ Laid (now (ledger .entry)) (flagged meta start stop) place at (now (out .entry)) (λ _. end) (now (out .exit)) r ⌝ }
+    ensures { λ r. ⌜ ((way : Way) → Laid way (now (ledger .entry)) (flagged meta start stop) place at (now (out .entry)) (λ _. end) (now (out .exit)) r) ⌝ }
 {
     let fourth = read_run(ledger, place, &marks::FLAG, out, at);
     let Step::Done {
@@ -180,7 +180,7 @@ fn read_flagged(
 pub fn read_position3(ledger: &[u8], place: usize, out: &mut [u8], at: usize) -> Step
     requires { ⌜ LedgerPlaced (now ledger) place at ⌝ }
     requires { ⌜ at % 8 ≡ 0 ⌝ }
-    ensures { λ r. ⌜ Laid (now (ledger .entry)) position3 place at (now (out .entry)) (λ _. end) (now (out .exit)) r ⌝ }
+    ensures { λ r. ⌜ ((way : Way) → Laid way (now (ledger .entry)) position3 place at (now (out .entry)) (λ _. end) (now (out .exit)) r) ⌝ }
 {
     let head = read_run(ledger, place, &marks::SATELLITE3, out, at);
     let Step::Done {

@@ -10,11 +10,11 @@ use lib.Seq.{drop-length}
 use borrow.Rule.Slice.PartMut.{midOf, putMid, mid-len, same-len-mid}
 use Rattle.format.specs.Digits.{bitsOf, splice}
 use Rattle.format.specs.Syntax.{Syntax}
-use Rattle.format.specs.Body.{plain}
+use Rattle.format.specs.Body.{laid}
 use Rattle.format.proofs.DigitLaws.{length-bits}
 use Rattle.bits.proofs.Splices.{part-splice, splice-in}
 use Rattle.bits.proofs.Groups.{bits-take, bits-drop, bits-splice}
-use Rattle.read_runs.specs.Came.{Came}
+use Rattle.read_runs.specs.Came.{Way, Came}
 
 -- what fills a part is all of it
 fills : (l xs : List ℕ) → length xs ≡ length l → xs ≡ splice l 0 xs
@@ -41,15 +41,15 @@ module _ (out : List ℕ) (from here : ℕ) (h : Starts from here out) (a : here
       ∙ splice-in (bitsOf out) xs (8 * from) 0 (8 * rest) (omega arith) (omega (arith, length-bits out))
       ∙ ap (λ (y : ℕ). splice (bitsOf out) y xs) p
 
-  pub lent : {l part : List ℕ} {s s′ : Syntax} {place p size : ℕ} → Came l s place 0 (midOf from (length out - from) out) s′ p size part
-      → Came l s place here out s′ p (here + size) (putMid from (length out - from) out part)
-  lent {part = part} {size = size} w =
+  pub lent : {way : Way} {l part : List ℕ} {s s′ : Syntax} {place p size : ℕ} → Came way l s place 0 (midOf from (length out - from) out) s′ p size part
+      → Came way l s place here out s′ p (here + size) (putMid from (length out - from) out part)
+  lent {way} {part = part} {size = size} w =
       record {
         ts = w .ts;
         reads = w .reads;
         joins = w .joins;
         size = omega (arith, w .size);
-        bits = lent-bits part (plain (w .ts)) size (omega (arith, w .size)) (w .long) (w .bits);
+        bits = lent-bits part (laid (way .edition) (w .ts)) size (omega (arith, w .size)) (w .long) (w .bits);
         long = same-len-mid from (length out - from) out part (w .long);
         within = w .within;
         slack = omega (arith, w .slack);

@@ -10,7 +10,7 @@ ghost use Rattle.format.specs.Syntax.{Name, Syntax};
 ghost use Rattle.format.specs.Tables.{times};
 ghost use Rattle.runs.specs.Lines.{widthOf, markOk, marksOk, line, run, runOf};
 ghost use Rattle.runs.specs.Steps.{lastOf, stored};
-ghost use Rattle.read_runs.specs.Came.{LedgerPlaced, Laid};
+ghost use Rattle.read_runs.specs.Came.{LedgerPlaced, Way, Laid};
 use bits::get_be;
 use bits::write_u;
 use format::Refusal;
@@ -42,7 +42,7 @@ pub fn byte_of(at: usize, n: usize) -> usize
 fn read_line(ledger: &[u8], place: usize, mark: u8, out: &mut [u8], at: usize) -> Step
     requires { ⌜ LedgerPlaced (now ledger) place at ⌝ }
     requires { ⌜ T (markOk mark) ⌝ }
-    ensures { λ r. ⌜ ((nm : Name) (k : ℕ → Syntax) → Laid (now (ledger .entry)) (line nm mark k) place at (now (out .entry)) k (now (out .exit)) r) ⌝ }
+    ensures { λ r. ⌜ ((way : Way) (nm : Name) (k : ℕ → Syntax) → Laid way (now (ledger .entry)) (line nm mark k) place at (now (out .entry)) k (now (out .exit)) r) ⌝ }
     ensures { λ r. ⌜ lastOf r < 2 ^ widthOf mark ⌝ }
 {
     let size = size_of(mark);
@@ -79,7 +79,7 @@ fn read_line(ledger: &[u8], place: usize, mark: u8, out: &mut [u8], at: usize) -
 pub fn read_run(ledger: &[u8], place: usize, marks: &[u8], out: &mut [u8], at: usize) -> Step
     requires { ⌜ LedgerPlaced (now ledger) place at ⌝ }
     requires { ⌜ T (marksOk (now marks)) ⌝ }
-    ensures { λ r. ⌜ ((nms : List Name) (k : ℕ → Syntax) → Laid (now (ledger .entry)) (run nms 0 (now (marks .entry)) k) place at (now (out .entry)) k (now (out .exit)) r) ⌝ }
+    ensures { λ r. ⌜ ((way : Way) (nms : List Name) (k : ℕ → Syntax) → Laid way (now (ledger .entry)) (run nms 0 (now (marks .entry)) k) place at (now (out .entry)) k (now (out .exit)) r) ⌝ }
     ensures { λ r. ⌜ lastOf r < 2 ^ widthOf (getD (now (marks .entry)) (length (now (marks .entry)) - 1) 0) ⌝ }
 {
     let mut here = at;
@@ -114,7 +114,7 @@ pub fn read_counted(
 ) -> Step
     requires { ⌜ LedgerPlaced (now ledger) place at ⌝ }
     requires { ⌜ T (marksOk (now marks)) ⌝ }
-    ensures { λ r. ⌜ ((nms : List Name) (s : Syntax) → Laid (now (ledger .entry)) (times count (runOf nms (now (marks .entry))) s) place at (now (out .entry)) (λ _. s) (now (out .exit)) r) ⌝ }
+    ensures { λ r. ⌜ ((way : Way) (nms : List Name) (s : Syntax) → Laid way (now (ledger .entry)) (times count (runOf nms (now (marks .entry))) s) place at (now (out .entry)) (λ _. s) (now (out .exit)) r) ⌝ }
 {
     let mut here = at;
     let mut there = place;

@@ -44,6 +44,9 @@ pub const NO_LEAP: [u8; 6] = [4, 33, 6, 9, 64, 32];
 // Id 3: beamhopping_time_plan_id, reserved.
 pub const PLAN: [u8; 2] = [32, 4];
 
+// plan_length, which a ledger of edition 2 has.
+pub const PLAN_LENGTH: [u8; 1] = [12];
+
 // reserved, time_plan_mode.
 pub const MODE: [u8; 2] = [6, 2];
 

@@ -41,7 +41,7 @@ unfoldable pub typedAt : ℕ → List ℕ → ℕ → EntryAnswer
 typedAt zero b p = read b 0 tables.position p (λ ts q. Entry (PositionV2 (satelliteOf ts))) Refused
 typedAt (suc zero) b p = read b 0 tables.fragment p (λ ts q. Entry (CellFragment (fragmentOf p ts))) Refused
 typedAt (suc (suc zero)) b p = read b 0 tables.association p (λ ts q. Entry (TimeAssociation (associationOf ts))) Refused
-typedAt (suc (suc (suc zero))) b p = read b 0 tables.beamhopping p (λ ts q. Entry (BeamhoppingTimePlan (planOf b p ts))) Refused
+typedAt (suc (suc (suc zero))) b p = read b 0 tables.beamhopping p (λ ts q. Entry (BeamhoppingTimePlan (planOf p ts))) Refused
 typedAt (suc (suc (suc (suc zero)))) b p = read b 0 tables.position3 p (λ ts q. Entry (PositionV3 (satelliteV3Of p ts))) Refused
 typedAt (suc (suc (suc (suc (suc n))))) b p = Entry (Raw (rawPart b))
 

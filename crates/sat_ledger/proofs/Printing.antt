@@ -9,7 +9,7 @@ use lib.Seq.{take-all}
 use borrow.Author.Tests.{le-leb}
 use Rattle.format.specs.Digits.{Below, splice}
 use Rattle.format.specs.Refusals.{refuse}
-use Rattle.format.specs.Syntax.{Parse, got, refused}
+use Rattle.format.specs.Syntax.{edition-1, Parse, got, refused}
 use Rattle.format.specs.Whole.{Table, bodyRead, Accepted, ledgerOf}
 use Rattle.format.specs.Calls.{numberOf, lengthOf, answer, resultIn, filed, writeAnswer, writeLeft}
 use Rattle.format.specs.declared.Refusal.{Refusal}
@@ -24,41 +24,41 @@ use Rattle.ledger_text.proofs.Decimals.{refusal-most}
 use Rattle.sat_ledger.specs.Output.{shown, outputOf}
 
 module _ (id : ℕ) (b : List ℕ) where
-  filed-got : {t : Table} → bodyRead id b ≡ got t [] → filed id b ≡ got (ledgerOf id t) []
+  filed-got : {t : Table} → bodyRead id b ≡ got t [] → filed edition-1 id b ≡ got (ledgerOf edition-1 id t) []
   unfolding filed
   filed-got e = rw e
 
-  filed-not : {x y z : ℕ} → bodyRead id b ≡ refused x y z → filed id b ≡ refused x y z
+  filed-not : {x y z : ℕ} → bodyRead id b ≡ refused x y z → filed edition-1 id b ≡ refused x y z
   unfolding filed
   filed-not e = rw e
 
   -- what is accepted is left in the buffer
-  filed-done : (out : List ℕ) {t n : ℕ} → writeAnswer id b (length out) ≡ Done t n → filed id b ≡ got (take n (writeLeft id b out)) []
+  filed-done : (out : List ℕ) {t n : ℕ} → writeAnswer edition-1 id b (length out) ≡ Done t n → filed edition-1 id b ≡ got (take n (writeLeft edition-1 id b out)) []
   unfolding numberOf lengthOf writeAnswer writeLeft
   filed-done out e =
-      let o = write-exactly id b (length out) .0 (ap numberOf e) in
+      let o = write-exactly edition-1 id b (length out) .0 (ap numberOf e) in
       let f = filed-got (o .1) in
-      let g = result-given id out (ledgerOf id (o .0)) [] (filed id b) f (o .2) in
-      f ∙ ap (λ (x : List ℕ). got x []) (sym (g .result) ∙ ap (λ (a : Answer). resultIn a (writeLeft id b out)) e)
+      let g = result-given id out (ledgerOf edition-1 id (o .0)) [] (filed edition-1 id b) f (o .2) in
+      f ∙ ap (λ (x : List ℕ). got x []) (sym (g .result) ∙ ap (λ (a : Answer). resultIn a (writeLeft edition-1 id b out)) e)
 
-  answer-done : (room : ℕ) {xs : List ℕ} → filed id b ≡ got xs [] → length xs ≤ room → writeAnswer id b room ≡ Done id (length xs)
+  answer-done : (room : ℕ) {xs : List ℕ} → filed edition-1 id b ≡ got xs [] → length xs ≤ room → writeAnswer edition-1 id b room ≡ Done id (length xs)
   unfolding writeAnswer answer
   answer-done room {xs} e h = rw (e, le-leb (length xs) room h)
 
-  answer-not : (room : ℕ) {x y z : ℕ} → filed id b ≡ refused x y z → writeAnswer id b room ≡ Refused (refuse x y z)
+  answer-not : (room : ℕ) {x y z : ℕ} → filed edition-1 id b ≡ refused x y z → writeAnswer edition-1 id b room ≡ Refused (refuse x y z)
   unfolding writeAnswer answer
   answer-not room e = rw e
 
   -- a refusal is the body's own: 8198 bytes have room for every ledger
-  filed-refused : id < 256 → Below 256 b → (room : ℕ) → 8198 ≤ room → (f : Refusal) → writeAnswer id b room ≡ Refused f
-      → filed id b ≡ refused (f .number) (f .need) (f .have)
+  filed-refused : id < 256 → Below 256 b → (room : ℕ) → 8198 ≤ room → (f : Refusal) → writeAnswer edition-1 id b room ≡ Refused f
+      → filed edition-1 id b ≡ refused (f .number) (f .need) (f .have)
   filed-refused hi hb room hr f e = go (bodyRead id b) refl
     where
-      go : (p : Parse Table) → bodyRead id b ≡ p → filed id b ≡ refused (f .number) (f .need) (f .have)
+      go : (p : Parse Table) → bodyRead id b ≡ p → filed edition-1 id b ≡ refused (f .number) (f .need) (f .have)
       go (got t r) q =
           let reads : bodyRead id b ≡ got t [] = rw (body-all id b q) at q in
           let p : Accepted id b t = record { byte = hi; bytes = hb; reads = reads } in
-          let fits : length (ledgerOf id t) ≤ room = omega (arith, ledger-length p, accepted-good p .2) in
+          let fits : length (ledgerOf edition-1 id t) ≤ room = omega (arith, ledger-length edition-1 p, accepted-good p .2) in
           let d = answer-done room (filed-got reads) fits in
           let o : _≡_ {A = ℕ} 0 1 = cc in
           absurd (omega arith)
@@ -79,14 +79,14 @@ unfolding outputOf
 none-is [] h = refl
 none-is (x ∷ l) h = absurd (omega arith)
 
-ledger-is : (l out : List ℕ) {t n : ℕ} → 0 < length l → writeAnswer (getD l 0 0) (bodyIn l) (length out) ≡ Done t n
-    → hexLine (take n (writeLeft (getD l 0 0) (bodyIn l) out)) ≡ outputOf l
+ledger-is : (l out : List ℕ) {t n : ℕ} → 0 < length l → writeAnswer edition-1 (getD l 0 0) (bodyIn l) (length out) ≡ Done t n
+    → hexLine (take n (writeLeft edition-1 (getD l 0 0) (bodyIn l) out)) ≡ outputOf l
 unfolding outputOf shown
 ledger-is [] out h e = absurd (omega arith)
 ledger-is (id ∷ b) out h e = let w = body-is id b in rw w (sym (ap shown (filed-done id b out (rw w at e))))
 
 refusal-is : (l : List ℕ) (room : ℕ) (f : Refusal) → 0 < length l → ((i : ℕ) → getD l i 0 < 256) → 8198 ≤ room
-    → writeAnswer (getD l 0 0) (bodyIn l) room ≡ Refused f → refusalLine (f .number) (f .need) (f .have) ≡ outputOf l
+    → writeAnswer edition-1 (getD l 0 0) (bodyIn l) room ≡ Refused f → refusalLine (f .number) (f .need) (f .have) ≡ outputOf l
 unfolding outputOf shown
 refusal-is [] room f h hb hr e = absurd (omega arith)
 refusal-is (id ∷ b) room f h hb hr e =
@@ -106,12 +106,12 @@ module _ (input : List ℕ) {before after : List ℕ} {r : ℕ} (room : length b
   printed-none h s = printed (ascii "no input\n") s (omega arith) (none-is input h)
 
   module _ {a : Answer} (out : List ℕ) (some-byte : 0 < length input) (cleared : length out ≡ 8198)
-      (answered : a ≡ writeAnswer (getD input 0 0) (bodyIn input) (length out)) where
-    pub printed-ledger : {left : List ℕ} {t n : ℕ} → left ≡ writeLeft (getD input 0 0) (bodyIn input) out → a ≡ Done t n
+      (answered : a ≡ writeAnswer edition-1 (getD input 0 0) (bodyIn input) (length out)) where
+    pub printed-ledger : {left : List ℕ} {t n : ℕ} → left ≡ writeLeft edition-1 (getD input 0 0) (bodyIn input) out → a ≡ Done t n
         → Stored (hexLine (take n left)) before after r → Printed input before after r
     unfolding writeLeft
     printed-ledger {left} {t} {n} w d s =
-        let long : length left ≡ 8198 = ap length w ∙ left-length out (filed (getD input 0 0) (bodyIn input)) ∙ cleared in
+        let long : length left ≡ 8198 = ap length w ∙ left-length out (filed edition-1 (getD input 0 0) (bodyIn input)) ∙ cleared in
         let short : length (take n left) ≤ 8198 = simp length-take (omega arith) in
         let line = ap (λ (l : List ℕ). hexLine (take n l)) w ∙ ledger-is input out some-byte (sym answered ∙ d) in
         printed (hexLine (take n left)) s (omega (arith, hex-line-length (take n left))) line

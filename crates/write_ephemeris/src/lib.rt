@@ -2,7 +2,7 @@
 ghost use Prim.Native.Nat.{ℕ};
 ghost use Rattle.format.specs.Syntax.{Name, Syntax, end};
 ghost use Rattle.format.specs.Tables.{times, header, usable, metadata, ephemeris, ephemerides, position3};
-ghost use Rattle.write_runs.specs.Went.{Placed, Ran};
+ghost use Rattle.write_runs.specs.Went.{Around, Placed, Ran};
 ghost use Rattle.write_ephemeris.specs.Rest.{flagged, unflagged, ephemerisTo};
 use format::Refusal;
 use runs::Step;
@@ -14,7 +14,7 @@ use write_runs::write_run;
 // Versions and creation date.
 pub fn write_header(body: &[u8], at: usize, out: &mut [u8], place: usize) -> Step
     requires { ⌜ Placed (now body) at place ⌝ }
-    ensures { λ r. ⌜ Ran (now (body .entry)) 0 header at place (now (out .entry)) (λ _. end) (now (out .exit)) r ⌝ }
+    ensures { λ r. ⌜ ((e : Around) → Ran (now (body .entry)) e header at place (now (out .entry)) (λ _. end) (now (out .exit)) r) ⌝ }
 {
     let have = 8 * body.len() - at;
     if have < 1 {
@@ -30,7 +30,7 @@ pub fn write_header(body: &[u8], at: usize, out: &mut [u8], place: usize) -> Ste
 // A usable time, where its flag is set.
 fn write_usable(body: &[u8], at: usize, number: u8, flag: u64, out: &mut [u8], place: usize) -> Step
     requires { ⌜ Placed (now body) at place ⌝ }
-    ensures { λ r. ⌜ ((nm : Name) (s : Syntax) → Ran (now (body .entry)) 0 (usable number nm flag s) at place (now (out .entry)) (λ _. s) (now (out .exit)) r) ⌝ }
+    ensures { λ r. ⌜ ((e : Around) (nm : Name) (s : Syntax) → Ran (now (body .entry)) e (usable number nm flag s) at place (now (out .entry)) (λ _. s) (now (out .exit)) r) ⌝ }
 {
     if flag == 1 {
         return write_needed(body, at, number, 56, &marks::STAMP, out, place);
@@ -48,7 +48,7 @@ fn write_metadata(
     place: usize,
 ) -> Step
     requires { ⌜ Placed (now body) at place ⌝ }
-    ensures { λ r. ⌜ ((s : Syntax) → Ran (now (body .entry)) 0 (metadata start stop s) at place (now (out .entry)) (λ _. s) (now (out .exit)) r) ⌝ }
+    ensures { λ r. ⌜ ((e : Around) (s : Syntax) → Ran (now (body .entry)) e (metadata start stop s) at place (now (out .entry)) (λ _. s) (now (out .exit)) r) ⌝ }
 {
     let fixed = write_needed(body, at, 16, 120, &marks::METADATA, out, place);
     let Step::Done { at, place, .. } = fixed else {
@@ -64,7 +64,7 @@ fn write_metadata(
 // One ephemeris entry, tested by itself.
 fn write_entry(body: &[u8], at: usize, accel: u64, out: &mut [u8], place: usize) -> Step
     requires { ⌜ Placed (now body) at place ⌝ }
-    ensures { λ r. ⌜ ((e : ℕ) (k : ℕ → Syntax) → Ran (now (body .entry)) e (ephemerisTo accel k) at place (now (out .entry)) k (now (out .exit)) r) ⌝ }
+    ensures { λ r. ⌜ ((e : Around) (k : ℕ → Syntax) → Ran (now (body .entry)) e (ephemerisTo accel k) at place (now (out .entry)) k (now (out .exit)) r) ⌝ }
 {
     if accel == 1 {
         return write_needed(body, at, 19, 344, &marks::ACCELERATED, out, place);
@@ -75,7 +75,7 @@ fn write_entry(body: &[u8], at: usize, accel: u64, out: &mut [u8], place: usize)
 // So many ephemeris entries, each from where the last one ended.
 fn write_each(body: &[u8], at: usize, accel: u64, count: u64, out: &mut [u8], place: usize) -> Step
     requires { ⌜ Placed (now body) at place ⌝ }
-    ensures { λ r. ⌜ ((s : Syntax) → Ran (now (body .entry)) 0 (times count (ephemeris accel) s) at place (now (out .entry)) (λ _. s) (now (out .exit)) r) ⌝ }
+    ensures { λ r. ⌜ ((e : Around) (s : Syntax) → Ran (now (body .entry)) e (times count (ephemeris accel) s) at place (now (out .entry)) (λ _. s) (now (out .exit)) r) ⌝ }
 {
     let mut here = at;
     let mut there = place;
@@ -112,7 +112,7 @@ fn write_ephemerides(
     place: usize,
 ) -> Step
     requires { ⌜ Placed (now body) at place ⌝ }
-    ensures { λ r. ⌜ Ran (now (body .entry)) 0 (ephemerides accel cov) at place (now (out .entry)) (λ _. end) (now (out .exit)) r ⌝ }
+    ensures { λ r. ⌜ ((e : Around) → Ran (now (body .entry)) e (ephemerides accel cov) at place (now (out .entry)) (λ _. end) (now (out .exit)) r) ⌝ }
 {
     let number = write_run(body, at, &marks::EPHEMERIS_COUNT, out, place);
     let Step::Done {
@@ -146,7 +146,7 @@ fn write_flagged(
     place: usize,
 ) -> Step
     requires { ⌜ Placed (now body) at place ⌝ }
-    ensures { λ r. ⌜ Ran (now (body .entry)) 0 (flagged meta start stop accel cov) at place (now (out .entry)) (λ _. end) (now (out .exit)) r ⌝ }
+    ensures { λ r. ⌜ ((e : Around) → Ran (now (body .entry)) e (flagged meta start stop accel cov) at place (now (out .entry)) (λ _. end) (now (out .exit)) r) ⌝ }
 {
     if meta == 1 {
         let known = write_metadata(body, at, start, stop, out, place);
@@ -161,7 +161,7 @@ fn write_flagged(
 // A satellite's other three flags, and what follows them.
 fn write_flags(body: &[u8], at: usize, meta: u64, start: u64, out: &mut [u8], place: usize) -> Step
     requires { ⌜ Placed (now body) at place ⌝ }
-    ensures { λ r. ⌜ Ran (now (body .entry)) 0 (unflagged meta start) at place (now (out .entry)) (λ _. end) (now (out .exit)) r ⌝ }
+    ensures { λ r. ⌜ ((e : Around) → Ran (now (body .entry)) e (unflagged meta start) at place (now (out .entry)) (λ _. end) (now (out .exit)) r) ⌝ }
 {
     let third = write_run(body, at, &marks::FLAG, out, place);
     let Step::Done {
@@ -196,7 +196,7 @@ fn write_flags(body: &[u8], at: usize, meta: u64, start: u64, out: &mut [u8], pl
 // A satellite.
 pub fn write_position3(body: &[u8], at: usize, out: &mut [u8], place: usize) -> Step
     requires { ⌜ Placed (now body) at place ⌝ }
-    ensures { λ r. ⌜ Ran (now (body .entry)) 0 position3 at place (now (out .entry)) (λ _. end) (now (out .exit)) r ⌝ }
+    ensures { λ r. ⌜ ((e : Around) → Ran (now (body .entry)) e position3 at place (now (out .entry)) (λ _. end) (now (out .exit)) r) ⌝ }
 {
     let first = write_run(body, at, &marks::SATELLITE3, out, place);
     let Step::Done {

@@ -1,13 +1,17 @@
 // Id 3: a beam hopping time plan of a body, written as a ledger has it.
 ghost use mathlib.Core.Path.{_≡_};
 ghost use mathlib.Core.Bool.{cond};
-ghost use Prim.Native.Nat.{ℕ, _+_, _-_, _*_, _%_, _≤_, _<_};
+ghost use Prim.Native.Nat.{_+_, _-_, _*_, _%_, _≤_, _<_};
 ghost use lib.Dec.{leb};
-ghost use lib.ListN.{length};
-ghost use Rattle.format.specs.Syntax.{Name, Syntax, end, slots, plan, raw};
+ghost use lib.ListN.{length, take, drop};
+ghost use Rattle.format.specs.Digits.{digits, bitsOf};
+ghost use Rattle.format.specs.Syntax.{Name, Syntax, end, slots, plan, raw, Edition, added};
+ghost use Rattle.format.specs.Ledger.{countedBytes};
+ghost use Rattle.format.specs.Whole.{editionFor};
 ghost use Rattle.format.specs.Tables.{bitmap, mode, hopping, beamhopping};
 ghost use Rattle.runs.specs.Steps.{stored};
-ghost use Rattle.write_runs.specs.Went.{Placed, Ran};
+ghost use Rattle.write_runs.specs.Went.{Around, outside, inside, Placed, Ran};
+ghost use Rattle.write_plans.specs.Appended.{Appended};
 ghost use Rattle.write_plans.specs.Ragged.{Ragged};
 ghost use Rattle.write_plans.specs.Slots.{packedBits};
 use bits::Bits;
@@ -59,7 +63,7 @@ fn write_bits(body: &[u8], at: usize, m: usize, out: &mut [u8], place: usize)
 fn write_slots(body: &[u8], at: usize, m: usize, out: &mut [u8], place: usize) -> Step
     requires { ⌜ Placed (now body) at place ⌝ }
     requires { ⌜ (at % 8 ≡ 0) × (m < 32768) ⌝ }
-    ensures { λ r. ⌜ ((e : ℕ) (nm : Name) (s : Syntax) → Ran (now (body .entry)) e (slots nm 12 m s) at place (now (out .entry)) (λ _. s) (now (out .exit)) r) ⌝ }
+    ensures { λ r. ⌜ ((e : Around) (nm : Name) (s : Syntax) → Ran (now (body .entry)) e (slots nm 12 m s) at place (now (out .entry)) (λ _. s) (now (out .exit)) r) ⌝ }
 {
     let have = 8 * body.len() - at;
     if have < m {
@@ -91,18 +95,27 @@ fn raw_bits(at: usize, stop: usize, n: usize) -> usize
     stop - at
 }
 
-// Raw bytes, behind their length.
+// Whole bytes of a body, given in bits, behind their count; the place behind them.
+fn write_bytes(body: &[u8], at: usize, m: usize, out: &mut [u8], place: usize) -> usize
+    requires { ⌜ (length (now body) ≤ 4096) × (at + m ≤ 8 * length (now body)) × (m % 8 ≡ 0) × (place ≤ 39000) ⌝ }
+    ensures { λ r. ⌜ Appended (now (out .entry)) place (countedBytes (take m (drop at (bitsOf (now (body .entry)))))) (now (out .exit)) r ⌝ }
+{
+    put(out, place, 2, (m / 8) as u64);
+    write_bits(body, at, m, out, place + 2);
+    place + 2 + m / 8
+}
+
+// Raw bytes, behind their count.
 fn write_raw(body: &[u8], at: usize, stop: usize, out: &mut [u8], place: usize) -> Step
     requires { ⌜ Placed (now body) at place ⌝ }
     requires { ⌜ (at % 8 ≡ 0) × (stop % 8 ≡ 0) ⌝ }
-    ensures { λ r. ⌜ ((nm : Name) → Ragged (now (body .entry)) stop (raw nm) at place (now (out .entry)) (now (out .exit)) r) ⌝ }
+    ensures { λ r. ⌜ ((ed : Edition) (nm : Name) → Ragged (now (body .entry)) (inside ed stop) (raw nm) at place (now (out .entry)) (now (out .exit)) r) ⌝ }
 {
     let m = raw_bits(at, stop, 8 * body.len());
-    put(out, place, 2, (m / 8) as u64);
-    write_bits(body, at, m, out, place + 2);
+    let p = write_bytes(body, at, m, out, place);
     Step::Done {
         at: at + m,
-        place: place + 2 + m / 8,
+        place: p,
         last: 0,
     }
 }
@@ -111,7 +124,7 @@ fn write_raw(body: &[u8], at: usize, stop: usize, out: &mut [u8], place: usize) 
 fn write_bitmap(body: &[u8], at: usize, out: &mut [u8], place: usize) -> Step
     requires { ⌜ Placed (now body) at place ⌝ }
     requires { ⌜ at % 8 ≡ 0 ⌝ }
-    ensures { λ r. ⌜ ((e : ℕ) → Ran (now (body .entry)) e bitmap at place (now (out .entry)) (λ _. end) (now (out .exit)) r) ⌝ }
+    ensures { λ r. ⌜ ((e : Around) → Ran (now (body .entry)) e bitmap at place (now (out .entry)) (λ _. end) (now (out .exit)) r) ⌝ }
 {
     let size = write_needed(body, at, 11, 32, &marks::SLOT, out, place);
     let Step::Done {
@@ -133,7 +146,7 @@ fn write_bitmap(body: &[u8], at: usize, out: &mut [u8], place: usize) -> Step
 fn write_mode(body: &[u8], at: usize, stop: usize, kind: u64, out: &mut [u8], place: usize) -> Step
     requires { ⌜ Placed (now body) at place ⌝ }
     requires { ⌜ (at % 8 ≡ 0) × (stop % 8 ≡ 0) ⌝ }
-    ensures { λ r. ⌜ Ragged (now (body .entry)) stop (mode kind) at place (now (out .entry)) (now (out .exit)) r ⌝ }
+    ensures { λ r. ⌜ ((ed : Edition) → Ragged (now (body .entry)) (inside ed stop) (mode kind) at place (now (out .entry)) (now (out .exit)) r) ⌝ }
 {
     if kind == 0 {
         return write_needed(body, at, 10, 96, &marks::CLOCKS, out, place);
@@ -151,7 +164,7 @@ fn write_mode(body: &[u8], at: usize, stop: usize, kind: u64, out: &mut [u8], pl
 fn write_hopping(body: &[u8], at: usize, stop: usize, out: &mut [u8], place: usize) -> Step
     requires { ⌜ Placed (now body) at place ⌝ }
     requires { ⌜ (at % 8 ≡ 0) × (stop % 8 ≡ 0) ⌝ }
-    ensures { λ r. ⌜ Ran (now (body .entry)) stop hopping at place (now (out .entry)) (λ _. end) (now (out .exit)) r ⌝ }
+    ensures { λ r. ⌜ ((ed : Edition) → Ran (now (body .entry)) (inside ed stop) hopping at place (now (out .entry)) (λ _. end) (now (out .exit)) r) ⌝ }
 {
     let head = write_run(body, at, &marks::MODE, out, place);
     let Step::Done {
@@ -169,11 +182,42 @@ fn write_hopping(body: &[u8], at: usize, stop: usize, out: &mut [u8], place: usi
     write_mode(body, at, stop, kind, out, place)
 }
 
-// A plan's length and what it is the length of. The next place is the plan's end, or the data's if that comes first.
-fn write_ended(body: &[u8], at: usize, out: &mut [u8], place: usize) -> Step
+// A plan's length, which the second edition has; the place behind it.
+fn write_length(version: u8, length: u64, out: &mut [u8], place: usize) -> usize
+    requires { ⌜ place ≤ 39000 ⌝ }
+    ensures { λ r. ⌜ Appended (now (out .entry)) place (added (editionFor version) (digits 256 2 length)) (now (out .exit)) r ⌝ }
+{
+    if version == 2 {
+        put(out, place, 2, length);
+        return place + 2;
+    }
+    place
+}
+
+// A plan's filler, from the fields' end up to the next place, which the second edition has; the place behind it.
+fn write_filler(
+    body: &[u8],
+    at: usize,
+    next: usize,
+    version: u8,
+    out: &mut [u8],
+    place: usize,
+) -> usize
+    requires { ⌜ (length (now body) ≤ 4096) × (at ≤ next) × (next ≤ 8 * length (now body)) × (at % 8 ≡ 0) × (next % 8 ≡ 0) × (place ≤ 39000) ⌝ }
+    ensures { λ r. ⌜ Appended (now (out .entry)) place (added (editionFor version) (countedBytes (take (next - at) (drop at (bitsOf (now (body .entry))))))) (now (out .exit)) r ⌝ }
+{
+    if version == 2 {
+        return write_bytes(body, at, next - at, out, place);
+    }
+    place
+}
+
+// A plan's length, what it is the length of, and the filler. The next place is the plan's end, or the data's if that
+// comes first.
+fn write_ended(body: &[u8], at: usize, version: u8, out: &mut [u8], place: usize) -> Step
     requires { ⌜ Placed (now body) at place ⌝ }
     requires { ⌜ (at + 12) % 8 ≡ 0 ⌝ }
-    ensures { λ r. ⌜ Ran (now (body .entry)) 0 (plan "plan_length" hopping) at place (now (out .entry)) (λ _. end) (now (out .exit)) r ⌝ }
+    ensures { λ r. ⌜ Ran (now (body .entry)) (outside (editionFor version)) (plan "plan_length" hopping) at place (now (out .entry)) (λ _. end) (now (out .exit)) r ⌝ }
 {
     let have = 8 * body.len();
     let r = read_u(body, at, 12);
@@ -185,7 +229,8 @@ fn write_ended(body: &[u8], at: usize, out: &mut [u8], place: usize) -> Step
         return Step::Refused(refusal_of(r));
     };
     let stop = inside + 8 * (bytes as usize);
-    let hopping = write_hopping(body, inside, stop, out, place);
+    let from = write_length(version, bytes, out, place);
+    let hopping = write_hopping(body, inside, stop, out, from);
     let Step::Done {
         at: a,
         place: p,
@@ -201,22 +246,24 @@ fn write_ended(body: &[u8], at: usize, out: &mut [u8], place: usize) -> Step
             have: 0,
         });
     }
+    let next = lesser(stop, have);
+    let behind = write_filler(body, a, next, version, out, p);
     Step::Done {
-        at: lesser(stop, have),
-        place: p,
+        at: next,
+        place: behind,
         last,
     }
 }
 
-// A plan: its fields but its length, which the others decide.
-pub fn write_plan(body: &[u8], at: usize, out: &mut [u8], place: usize) -> Step
+// A plan, in the edition of a version.
+pub fn write_plan(body: &[u8], at: usize, version: u8, out: &mut [u8], place: usize) -> Step
     requires { ⌜ Placed (now body) at place ⌝ }
     requires { ⌜ at % 8 ≡ 0 ⌝ }
-    ensures { λ r. ⌜ Ran (now (body .entry)) 0 beamhopping at place (now (out .entry)) (λ _. end) (now (out .exit)) r ⌝ }
+    ensures { λ r. ⌜ Ran (now (body .entry)) (outside (editionFor version)) beamhopping at place (now (out .entry)) (λ _. end) (now (out .exit)) r ⌝ }
 {
     let head = write_run(body, at, &marks::PLAN, out, place);
     let Step::Done { at, place, .. } = head else {
         return head;
     };
-    write_ended(body, at, out, place)
+    write_ended(body, at, version, out, place)
 }

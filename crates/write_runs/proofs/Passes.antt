@@ -16,7 +16,7 @@ use Rattle.runs.specs.declared.Step.{Step}
 use Rattle.runs.specs.declared.Step.the-variants.{Done, Refused}
 use Rattle.runs.proofs.MarkLaws.{mark-facts, marks-at}
 use Rattle.runs.proofs.Stores.{digits-short}
-use Rattle.write_runs.specs.Went.{Ran, Placed, Moved}
+use Rattle.write_runs.specs.Went.{Around, Ran, Placed, Moved}
 use Rattle.write_runs.proofs.WentLaws.{line-done, line-no}
 use Rattle.write_runs.proofs.Runs.{Next, Along, lines, lines-next, lines-end, Balance, balance-next, balance-end, begin, turn, stop, ended}
 
@@ -63,7 +63,7 @@ module _ {body marks : List ℕ} {at place : ℕ} where
         let back : here + w - w ≡ here = omega arith in
         let same : valueAt body (here + w - w) w ≡ v = ap (λ (p : ℕ). valueAt body p w) back in
         let one : i + 1 - 1 ≡ i = omega arith in
-        let y : (nm : Name) (e : ℕ) (k : Next) → Ran body e (line nm c k) here there [] k [] (Done (here + w) (there + z) v) =
+        let y : (nm : Name) (e : Around) (k : Next) → Ran body e (line nm c k) here there [] k [] (Done (here + w) (there + z) v) =
         λ nm e k. record { to = line-done nm c k m ew ez fits refl (sym (digits-short [] there z _ (omega (arith, f .one)))) } in
         record {
           along = λ nms. subst (λ (x : ℕ). Along (run nms 0 marks) (lines nms marks) body at place [] (here + w) (there + z) x (i + 1) []) (sym same)
@@ -75,7 +75,7 @@ module _ {body marks : List ℕ} {at place : ℕ} where
           balance = balance-next {x = v} marks at place here there i more refl (record { to = (omega (arith, ew), omega (arith, ez)) }) (st .balance);
         }
 
-    pub pass-stops : 8 * length body < here + w → (e : ℕ) (nms : List Name) (k : Next) → Ran body e (run nms 0 marks k) at place [] k [] (Refused (refuse 1 (here + w) (8 * length body)))
+    pub pass-stops : 8 * length body < here + w → (e : Around) (nms : List Name) (k : Next) → Ran body e (run nms 0 marks k) at place [] k [] (Refused (refuse 1 (here + w) (8 * length body)))
     pass-stops h e nms k =
         let c = getD marks i 0 in
         let nm = headName (drop i nms) in
@@ -84,7 +84,7 @@ module _ {body marks : List ℕ} {at place : ℕ} where
 
   -- all are passed
   pub pass-ends : {here there width i v : ℕ} → Passed body at marks place here there width i → i ≡ length marks → v ≡ valueAt body (here - width) width
-      → (e : ℕ) (nms : List Name) (k : Next) → Ran body e (run nms 0 marks k) at place [] k [] (Done here there v)
+      → (e : Around) (nms : List Name) (k : Next) → Ran body e (run nms 0 marks k) at place [] k [] (Done here there v)
   pass-ends {here} {there} {width} {i} {v} st z q e nms k =
       subst (λ (x : ℕ). Ran body e (run nms 0 marks k) at place [] k [] (Done here there x)) (sym q)
       (record { to = ended (st .along nms) e k _ (lines-end nms marks _ i k z) })
@@ -93,6 +93,6 @@ module _ {body marks : List ℕ} {at place : ℕ} where
   pass-moved {here} {there} {width} {i} st z = record { to = balance-end marks at place here there i z (st .balance) }
 
 -- with a buffer that is empty, nothing is stored
-pub none-stored : {body out : List ℕ} {e at place : ℕ} {s : Syntax} {k : Next} {r : Step} → length out ≡ 0 → Ran body e s at place [] k [] r → Ran body e s at place out k out r
+pub none-stored : {body out : List ℕ} {e : Around} {at place : ℕ} {s : Syntax} {k : Next} {r : Step} → length out ≡ 0 → Ran body e s at place [] k [] r → Ran body e s at place out k out r
 none-stored {out = []} z x = x
 none-stored {out = y ∷ ys} z x = absurd (omega arith)

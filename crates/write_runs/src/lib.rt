@@ -10,7 +10,7 @@ ghost use Rattle.format.specs.Syntax.{Name, Syntax, need};
 ghost use Rattle.format.specs.Tables.{times};
 ghost use Rattle.runs.specs.Lines.{widthOf, markOk, marksOk, line, run, runOf};
 ghost use Rattle.runs.specs.Steps.{lastOf, stored};
-ghost use Rattle.write_runs.specs.Went.{Placed, Ran, Moved};
+ghost use Rattle.write_runs.specs.Went.{Around, Placed, Ran, Moved};
 use bits::put_be;
 use bits::put_byte;
 use bits::put_pair;
@@ -58,7 +58,7 @@ pub fn within(place: usize, n: usize) -> usize
 fn write_line(body: &[u8], at: usize, mark: u8, out: &mut [u8], place: usize) -> Step
     requires { ⌜ Placed (now body) at place ⌝ }
     requires { ⌜ T (markOk mark) ⌝ }
-    ensures { λ r. ⌜ ((e : ℕ) (nm : Name) (k : ℕ → Syntax) → Ran (now (body .entry)) e (line nm mark k) at place (now (out .entry)) k (now (out .exit)) r) ⌝ }
+    ensures { λ r. ⌜ ((e : Around) (nm : Name) (k : ℕ → Syntax) → Ran (now (body .entry)) e (line nm mark k) at place (now (out .entry)) k (now (out .exit)) r) ⌝ }
     ensures { λ r. ⌜ lastOf r < 2 ^ widthOf mark ⌝ }
     ensures { λ r. ⌜ Moved at place (mark ∷ []) r ⌝ }
 {
@@ -86,7 +86,7 @@ fn write_line(body: &[u8], at: usize, mark: u8, out: &mut [u8], place: usize) ->
 fn pass_run(body: &[u8], at: usize, marks: &[u8], place: usize) -> Step
     requires { ⌜ Placed (now body) at place ⌝ }
     requires { ⌜ T (marksOk (now marks)) ⌝ }
-    ensures { λ r. ⌜ ((e : ℕ) (nms : List Name) (k : ℕ → Syntax) → Ran (now (body .entry)) e (run nms 0 (now (marks .entry)) k) at place [] k [] r) ⌝ }
+    ensures { λ r. ⌜ ((e : Around) (nms : List Name) (k : ℕ → Syntax) → Ran (now (body .entry)) e (run nms 0 (now (marks .entry)) k) at place [] k [] r) ⌝ }
     ensures { λ r. ⌜ lastOf r < 2 ^ widthOf (getD (now (marks .entry)) (length (now (marks .entry)) - 1) 0) ⌝ }
     ensures { λ r. ⌜ Moved at place (now (marks .entry)) r ⌝ }
 {
@@ -120,7 +120,7 @@ fn pass_run(body: &[u8], at: usize, marks: &[u8], place: usize) -> Step
 fn store_run(body: &[u8], at: usize, marks: &[u8], out: &mut [u8], place: usize) -> Step
     requires { ⌜ Placed (now body) at place ⌝ }
     requires { ⌜ T (marksOk (now marks)) ⌝ }
-    ensures { λ r. ⌜ ((e : ℕ) (nms : List Name) (k : ℕ → Syntax) → Ran (now (body .entry)) e (run nms 0 (now (marks .entry)) k) at place (now (out .entry)) k (now (out .exit)) r) ⌝ }
+    ensures { λ r. ⌜ ((e : Around) (nms : List Name) (k : ℕ → Syntax) → Ran (now (body .entry)) e (run nms 0 (now (marks .entry)) k) at place (now (out .entry)) k (now (out .exit)) r) ⌝ }
     ensures { λ r. ⌜ lastOf r < 2 ^ widthOf (getD (now (marks .entry)) (length (now (marks .entry)) - 1) 0) ⌝ }
     ensures { λ r. ⌜ Moved at place (now (marks .entry)) r ⌝ }
 {
@@ -149,7 +149,7 @@ fn store_run(body: &[u8], at: usize, marks: &[u8], out: &mut [u8], place: usize)
 pub fn write_run(body: &[u8], at: usize, marks: &[u8], out: &mut [u8], place: usize) -> Step
     requires { ⌜ Placed (now body) at place ⌝ }
     requires { ⌜ T (marksOk (now marks)) ⌝ }
-    ensures { λ r. ⌜ ((e : ℕ) (nms : List Name) (k : ℕ → Syntax) → Ran (now (body .entry)) e (run nms 0 (now (marks .entry)) k) at place (now (out .entry)) k (now (out .exit)) r) ⌝ }
+    ensures { λ r. ⌜ ((e : Around) (nms : List Name) (k : ℕ → Syntax) → Ran (now (body .entry)) e (run nms 0 (now (marks .entry)) k) at place (now (out .entry)) k (now (out .exit)) r) ⌝ }
     ensures { λ r. ⌜ lastOf r < 2 ^ widthOf (getD (now (marks .entry)) (length (now (marks .entry)) - 1) 0) ⌝ }
     ensures { λ r. ⌜ Moved at place (now (marks .entry)) r ⌝ }
 {
@@ -171,7 +171,7 @@ pub fn write_needed(
 ) -> Step
     requires { ⌜ Placed (now body) at place ⌝ }
     requires { ⌜ T (marksOk (now marks)) ⌝ }
-    ensures { λ r. ⌜ ((e : ℕ) (nms : List Name) (k : ℕ → Syntax) → Ran (now (body .entry)) e (need number bits (run nms 0 (now (marks .entry)) k)) at place (now (out .entry)) k (now (out .exit)) r) ⌝ }
+    ensures { λ r. ⌜ ((e : Around) (nms : List Name) (k : ℕ → Syntax) → Ran (now (body .entry)) e (need number bits (run nms 0 (now (marks .entry)) k)) at place (now (out .entry)) k (now (out .exit)) r) ⌝ }
     ensures { λ r. ⌜ lastOf r < 2 ^ widthOf (getD (now (marks .entry)) (length (now (marks .entry)) - 1) 0) ⌝ }
     ensures { λ r. ⌜ Moved at place (now (marks .entry)) r ⌝ }
 {
@@ -197,7 +197,7 @@ fn write_rounds(
 ) -> Step
     requires { ⌜ Placed (now body) at place ⌝ }
     requires { ⌜ T (marksOk (now marks)) ⌝ }
-    ensures { λ r. ⌜ ((e : ℕ) (nms : List Name) (s : Syntax) → Ran (now (body .entry)) e (times count (runOf nms (now (marks .entry))) s) at place (now (out .entry)) (λ _. s) (now (out .exit)) r) ⌝ }
+    ensures { λ r. ⌜ ((e : Around) (nms : List Name) (s : Syntax) → Ran (now (body .entry)) e (times count (runOf nms (now (marks .entry))) s) at place (now (out .entry)) (λ _. s) (now (out .exit)) r) ⌝ }
 {
     let mut here = at;
     let mut there = place;
@@ -232,7 +232,7 @@ pub fn write_counted(
     requires { ⌜ Placed (now body) at place ⌝ }
     requires { ⌜ T (marksOk (now marks)) ⌝ }
     requires { ⌜ (count < 65536) × (bits < 65536) ⌝ }
-    ensures { λ r. ⌜ ((e : ℕ) (nms : List Name) (s : Syntax) → Ran (now (body .entry)) e (need number (count * bits) (times count (runOf nms (now (marks .entry))) s)) at place (now (out .entry)) (λ _. s) (now (out .exit)) r) ⌝ }
+    ensures { λ r. ⌜ ((e : Around) (nms : List Name) (s : Syntax) → Ran (now (body .entry)) e (need number (count * bits) (times count (runOf nms (now (marks .entry))) s)) at place (now (out .entry)) (λ _. s) (now (out .exit)) r) ⌝ }
 {
     let have = 8 * body.len() - at;
     let n = count as usize;

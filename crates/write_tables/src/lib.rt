@@ -2,7 +2,7 @@
 ghost use Prim.Native.Nat.{_<_};
 ghost use Rattle.format.specs.Syntax.{end};
 ghost use Rattle.format.specs.Tables.{position, fragment, association};
-ghost use Rattle.write_runs.specs.Went.{Placed, Ran};
+ghost use Rattle.write_runs.specs.Went.{Around, Placed, Ran};
 ghost use Rattle.write_tables.specs.Lists.{lists};
 use format::Refusal;
 use runs::Step;
@@ -14,7 +14,7 @@ use write_runs::write_run;
 // Id 0: a satellite.
 pub fn write_position(body: &[u8], at: usize, out: &mut [u8], place: usize) -> Step
     requires { ⌜ Placed (now body) at place ⌝ }
-    ensures { λ r. ⌜ Ran (now (body .entry)) 0 position at place (now (out .entry)) (λ _. end) (now (out .exit)) r ⌝ }
+    ensures { λ r. ⌜ ((e : Around) → Ran (now (body .entry)) e position at place (now (out .entry)) (λ _. end) (now (out .exit)) r) ⌝ }
 {
     let head = write_run(body, at, &marks::SATELLITE, out, place);
     let Step::Done {
@@ -35,7 +35,7 @@ pub fn write_position(body: &[u8], at: usize, out: &mut [u8], place: usize) -> S
 fn write_lists(body: &[u8], at: usize, count: u64, out: &mut [u8], place: usize) -> Step
     requires { ⌜ Placed (now body) at place ⌝ }
     requires { ⌜ count < 1024 ⌝ }
-    ensures { λ r. ⌜ Ran (now (body .entry)) 0 (lists count) at place (now (out .entry)) (λ _. end) (now (out .exit)) r ⌝ }
+    ensures { λ r. ⌜ ((e : Around) → Ran (now (body .entry)) e (lists count) at place (now (out .entry)) (λ _. end) (now (out .exit)) r) ⌝ }
 {
     let ids = write_counted(body, at, 6, 32, &marks::SYSTEM_ID, count, out, place);
     let Step::Done { at, place, .. } = ids else {
@@ -69,7 +69,7 @@ fn write_lists(body: &[u8], at: usize, count: u64, out: &mut [u8], place: usize)
 // Id 1: a cell fragment.
 pub fn write_fragment(body: &[u8], at: usize, out: &mut [u8], place: usize) -> Step
     requires { ⌜ Placed (now body) at place ⌝ }
-    ensures { λ r. ⌜ Ran (now (body .entry)) 0 fragment at place (now (out .entry)) (λ _. end) (now (out .exit)) r ⌝ }
+    ensures { λ r. ⌜ ((e : Around) → Ran (now (body .entry)) e fragment at place (now (out .entry)) (λ _. end) (now (out .exit)) r) ⌝ }
 {
     let cell = write_run(body, at, &marks::CELL, out, place);
     let Step::Done {
@@ -101,7 +101,7 @@ pub fn write_fragment(body: &[u8], at: usize, out: &mut [u8], place: usize) -> S
 // Id 2: a time association.
 pub fn write_association(body: &[u8], at: usize, out: &mut [u8], place: usize) -> Step
     requires { ⌜ Placed (now body) at place ⌝ }
-    ensures { λ r. ⌜ Ran (now (body .entry)) 0 association at place (now (out .entry)) (λ _. end) (now (out .exit)) r ⌝ }
+    ensures { λ r. ⌜ ((e : Around) → Ran (now (body .entry)) e association at place (now (out .entry)) (λ _. end) (now (out .exit)) r) ⌝ }
 {
     let have = 8 * body.len() - at;
     if have < 1 {

@@ -32,13 +32,13 @@ plan-refusal-requires c κs = search needs
 returns : tie.Need-returns
 unfolding endOf after planRefusal planAt
 returns c =
-    given-no _ beamhopping _ (λ ts q. end.At q) end.Refused (λ ts q. Entry (planOf (c .before .before .before .before .before .args .s .now) (c .before .before .before .before .before .args .at) ts) q) Refused after (λ ts q. refl) (λ f. refl) planRefusal (λ x. refl)
+    given-no _ beamhopping _ (λ ts q. end.At q) end.Refused (λ ts q. Entry (planOf (c .before .before .before .before .before .args .at) ts) q) Refused after (λ ts q. refl) (λ f. refl) planRefusal (λ x. refl)
     (c .before .before .before .read-plan .ensures) (c .before .enum-told .given .1) (c .plan-refusal .ensures)
 
 returns-2 : tie.Need-returns-2
 unfolding endOf after planAt
 returns-2 c =
-    given _ beamhopping _ (λ ts q. end.At q) end.Refused (λ ts q. Entry (planOf (c .before .before .before .before .before .args .s .now) (c .before .before .before .before .before .args .at) ts) q) Refused after (λ ts q. refl) (λ f. refl)
+    given _ beamhopping _ (λ ts q. end.At q) end.Refused (λ ts q. Entry (planOf (c .before .before .before .before .before .args .at) ts) q) Refused after (λ ts q. refl) (λ f. refl)
     (c .before .before .before .read-plan .ensures) (c .before .r .given .1) refl
 
 pub plan-end-spec : {M : Type 1} → statement M

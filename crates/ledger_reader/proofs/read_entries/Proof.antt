@@ -5,6 +5,7 @@ use Prim.Native.Nat.{_-_, _≤_}
 use native.Mathlib.Omega.{arith}
 use denote.Ref.{now}
 use borrow.Author.Needs.{needs}
+use Rattle.format.specs.Whole.{editionFor}
 use Rattle.ledger_reader.specs.Held.{entryOf}
 use Rattle.format.proofs.DigitLaws.{below-of}
 use Rattle.ledger_reader.proofs.Fields.{fine-entry}
@@ -13,10 +14,10 @@ use Rattle.ledger_reader.proofs.read_entries.Statement.{statement}
 use Rattle.ledger_reader.proofs.read_entries.Tie as tie
 
 abbrev Inv-loop : tie.InvT-loop
-Inv-loop table-id ledger place count out₀ at here₀ there₀ i₀ out here there i = Counting ledger (entryOf table-id) place count at out₀ there here i out × (i ≤ count)
+Inv-loop version table-id ledger place count out₀ at here₀ there₀ i₀ out here there i = Counting (editionFor version) ledger (entryOf table-id) place count at out₀ there here i out × (i ≤ count)
 
 abbrev μ-loop : tie.MeasureT-loop
-μ-loop table-id ledger place count out₀ at here₀ there₀ i₀ out here there i = count - i
+μ-loop version table-id ledger place count out₀ at here₀ there₀ i₀ out here there i = count - i
 
 loop-holds : tie.Need-loop-holds Inv-loop μ-loop
 loop-holds c = (begin (c .before .before .args .count) (c .before .before .pre .0) (c .before .before .pre .1 .0), omega arith)
@@ -32,6 +33,9 @@ part-read-entry-start c = omega arith
 
 part-read-entry-end : tie.Need-part-read-entry-end Inv-loop μ-loop
 part-read-entry-end c = omega arith
+
+add-last : tie.Need-add-last Inv-loop μ-loop
+add-last c = omega arith
 
 read-entry-requires : tie.Need-read-entry-requires Inv-loop μ-loop
 read-entry-requires c κs =
@@ -91,6 +95,7 @@ read-entries-spec =
     μ-loop
     loop-holds
     byte-of-requires
+    add-last
     sub-read-entry
     part-read-entry-start
     part-read-entry-end

@@ -18,7 +18,7 @@ same-length c = search needs
 returns : tie.Need-returns
 returns c =
     let a = c .before .before .before .before .before .before .before .args in
-    let z : a .table-id ≡ 0 = c .before .before .before .before .if1 .taken in rw z (as-taken (c .before .before .read-position .ensures))
+    let z : a .table-id ≡ 0 = c .before .before .before .before .if1 .taken in rw z (as-taken (c .before .before .read-position .ensures _))
 
 read-fragment-requires : tie.Need-read-fragment-requires
 read-fragment-requires c κs =
@@ -31,7 +31,7 @@ same-length-2 c = search needs
 returns-2 : tie.Need-returns-2
 returns-2 c =
     let a = c .before .before .before .before .before .before .before .before .args in
-    let z : a .table-id ≡ 1 = c .before .before .before .before .if2 .taken in rw z (as-taken (c .before .before .read-fragment .ensures))
+    let z : a .table-id ≡ 1 = c .before .before .before .before .if2 .taken in rw z (as-taken (c .before .before .read-fragment .ensures _))
 
 read-plan-requires : tie.Need-read-plan-requires
 read-plan-requires c κs = (c .before .before .before .before .before .before .pre .0)
@@ -56,7 +56,7 @@ returns-4 : tie.Need-returns-4
 returns-4 c =
     let a = c .before .before .before .before .before .before .before .before .before .args in
     let pre = c .before .before .before .before .before .before .before .before .before .pre in
-    let z : a .table-id ≡ 4 = omega (arith, pre .1 .known, pre .1 .several) in rw z (as-taken (c .before .before .read-position3 .ensures))
+    let z : a .table-id ≡ 4 = omega (arith, pre .1 .known, pre .1 .several) in rw z (as-taken (c .before .before .read-position3 .ensures _))
 
 pub read-entry-spec : {M : Type 1} → statement M
 read-entry-spec =

@@ -5,6 +5,7 @@ use native.Mathlib.Omega.{arith}
 use denote.Ref.{now}
 use borrow.Author.Needs.{needs}
 use Rattle.format.specs.Tables.{position3}
+use Rattle.read_runs.specs.Came.{someWay}
 use Rattle.format.proofs.FineTables.{fine-header}
 use Rattle.read_runs.proofs.CameLaws.{stopped}
 use Rattle.read_plans.proofs.TakenLaws.{as-taken}
@@ -17,11 +18,11 @@ use Rattle.ledger_reader.proofs.read_fields.Tie as tie
 copy-opaque-requires : tie.Need-copy-opaque-requires
 copy-opaque-requires c κs = search needs
 
-sub-t12 : tie.Need-sub-t12
-sub-t12 c = search needs
+sub-t13 : tie.Need-sub-t13
+sub-t13 c = search needs
 
-mul-t13 : tie.Need-mul-t13
-mul-t13 c = search needs
+mul-t14 : tie.Need-mul-t14
+mul-t14 c = search needs
 
 same-length : tie.Need-same-length
 same-length c = search needs
@@ -44,7 +45,7 @@ same-length-2 c = search needs
 returns-2 : tie.Need-returns-2
 returns-2 c =
     let z : c .before .before .before .before .before .before .before .before .args .table-id ≡ 2 = c .before .before .before .before .if2 .taken in
-    rw z (sole-holds (as-taken (c .before .before .read-association .ensures)))
+    rw z (sole-holds (as-taken (c .before .before .read-association .ensures _)))
 
 read-header-requires : tie.Need-read-header-requires
 read-header-requires c κs =
@@ -65,11 +66,11 @@ returns-3 c =
     let z : c .before .before .before .before .before .before .before .before .before .before .before .args .table-id ≡ 4 = c .before .before .before .before .before .before .if3 .taken in
     rw z
     (holds-no (c .enum-told .given .1)
-    (head-no 32 position3 (stopped (c .enum-told .given .1) (c .before .before .before .before .read-header .ensures))))
+    (head-no 32 position3 (stopped (c .enum-told .given .1) (c .before .before .before .before .read-header .ensures _))))
 
 read-list-requires : tie.Need-read-list-requires
 read-list-requires c κs =
-    let w = (took (c .before .before .header .given .1) (as-taken (c .before .before .before .before .before .before .read-header .ensures))) in
+    let w = (took {way = someWay} (c .before .before .header .given .1) (as-taken (c .before .before .before .before .before .before .read-header .ensures _))) in
     let s = c .before .before .before .before .before .before .before .before .before .before .before .before .before in
     let bytes = below-of 256 (now (s .args .ledger)) (λ i. omega (arith, c .before .before .before .before .before .before .before .before .before .before .before .before .shared-slice-known .given i)) in (
       record { short = s .pre .short; within = w .within; behind = omega (arith, w .slack) },
@@ -82,7 +83,7 @@ same-length-4 c = search needs
 returns-4 : tie.Need-returns-4
 returns-4 c =
     let z : c .before .before .before .before .before .before .before .before .before .before .before .before .before .before .before .before .args .table-id ≡ 4 = c .before .before .before .before .before .before .before .before .before .before .before .if3 .taken in
-    let w = (took (c .before .before .before .before .before .header .given .1) (as-taken (c .before .before .before .before .before .before .before .before .before .read-header .ensures))) in
+    let w = (took (c .before .before .before .before .before .header .given .1) (as-taken (c .before .before .before .before .before .before .before .before .before .read-header .ensures _))) in
     rw z (list-holds 32 position3 w (rw z at (c .before .before .read-list .ensures)))
 
 read-list-requires-2 : tie.Need-read-list-requires-2
@@ -107,8 +108,8 @@ read-fields-spec =
     tie.close
     (tie.spec
     copy-opaque-requires
-    sub-t12
-    mul-t13
+    sub-t13
+    mul-t14
     same-length
     returns
     read-association-requires

@@ -4,6 +4,7 @@ use Prim.Native.Nat.{_-_, _*_}
 use native.Mathlib.Omega.{arith}
 use borrow.Author.Needs.{needs}
 use lib.ListN.{length}
+use Rattle.format.specs.Whole.{editionFor}
 use Rattle.write_runs.proofs.Lent.{lent}
 use Rattle.write_runs.proofs.WentLaws.{done, stopped}
 use Rattle.ledger_writer.proofs.Listing.{Listing, begin, turn, stop, listed-no, ended}
@@ -11,10 +12,10 @@ use Rattle.ledger_writer.proofs.write_entries.Statement.{statement}
 use Rattle.ledger_writer.proofs.write_entries.Tie as tie
 
 abbrev Inv-loop : tie.InvT-loop
-Inv-loop table-id body start out₀ place bits least at₀ there₀ count₀ out at there count = Listing body table-id start place out₀ at there count out
+Inv-loop version table-id body start out₀ place bits least at₀ there₀ count₀ out at there count = Listing (editionFor version) body table-id start place out₀ at there count out
 
 abbrev μ-loop : tie.MeasureT-loop
-μ-loop table-id body start out₀ place bits least at₀ there₀ count₀ out at there count = 8 * length body - at
+μ-loop version table-id body start out₀ place bits least at₀ there₀ count₀ out at there count = 8 * length body - at
 
 mul-bits : tie.Need-mul-bits Inv-loop μ-loop
 mul-bits c = omega (arith, c .before .before .pre .0 .short)

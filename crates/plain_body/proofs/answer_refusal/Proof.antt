@@ -1,7 +1,7 @@
 -- `answer_refusal` meets its contract, by the case of the answer.
 -- Assumes nothing.
 use borrow.Author.Needs.{needs}
-use Rattle.plain_body.specs.Plain.{answerRefusal}
+use Rattle.plain_body.specs.Bodies.{answerRefusal}
 use Rattle.plain_body.proofs.answer_refusal.Statement.{statement}
 use Rattle.plain_body.proofs.answer_refusal.Tie as tie
 

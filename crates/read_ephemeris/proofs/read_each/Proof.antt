@@ -6,7 +6,7 @@ use denote.Ref.{now}
 use borrow.Author.Needs.{needs}
 use Rattle.format.specs.Syntax.{Syntax, end}
 use Rattle.format.specs.Tables.{ephemeris}
-use Rattle.read_runs.specs.Came.{Came}
+use Rattle.read_runs.specs.Came.{Way, someWay, Came}
 use Rattle.read_runs.proofs.CameLaws.{done}
 use Rattle.read_runs.proofs.Lent.{lent}
 use Rattle.format.proofs.DigitLaws.{below-of}
@@ -59,7 +59,7 @@ returns c =
 add-here : tie.Need-add-here Inv-loop μ-loop
 add-here c =
     let placed = c .before .before .before .before .before .before .before .before .before .loop .inv .0 .placed in
-    let w = done (c .before .entry .given .1) (c .before .before .before .before .before .read-entry .ensures end) in
+    let w = done (c .before .entry .given .1) (c .before .before .before .before .before .read-entry .ensures someWay end) in
     omega (arith, placed .behind, placed .within, placed .short, w .slack, w .within)
 
 add-i : tie.Need-add-i Inv-loop μ-loop
@@ -74,15 +74,15 @@ loop-again c =
     let l = c .before .before .before .before .before .before .before .before .before .loop in
     let test′ = c .before .before .before .before .before .before .before .before .loop-test in
     let bytes = below-of 256 (now (a .ledger)) (λ i. omega (arith, c .before .before .before .before .before .before .before .before .before .before .before .shared-slice-known .given i)) in
-    let w : (s : Syntax) → Came (now (a .ledger)) (ephemeris (a .accel) s) (l .there) (l .here) (l .out) s _ _ _ = λ s. lent (l .out) (c .before .before .before .before .before .before .before .byte-of .result) (l .here) (c .before .before .before .before .before .before .before .byte-of .ensures) (l .inv .0 .aligned)
-    (done (c .before .entry .given .1) (c .before .before .before .before .before .read-entry .ensures s)) in
-    (turn (l .inv .0) (test′ .taken) w (came-whole (fine-ephemeris (a .accel)) bytes (l .inv .0 .aligned) (w end)), omega arith)
+    let w : (way : Way) (s : Syntax) → Came way (now (a .ledger)) (ephemeris (a .accel) s) (l .there) (l .here) (l .out) s _ _ _ = λ way s. lent (l .out) (c .before .before .before .before .before .before .before .byte-of .result) (l .here) (c .before .before .before .before .before .before .before .byte-of .ensures) (l .inv .0 .aligned)
+    (done (c .before .entry .given .1) (c .before .before .before .before .before .read-entry .ensures way s)) in
+    (turn (l .inv .0) (test′ .taken) w (came-whole (fine-ephemeris (a .accel)) bytes (l .inv .0 .aligned) (w someWay end)), omega arith)
 
 same-length-2 : tie.Need-same-length-2 Inv-loop μ-loop
 same-length-2 c = c .before .loop .inv .0 .long
 
 returns-2 : tie.Need-returns-2 Inv-loop μ-loop
-returns-2 c = λ s. record { to = ended (c .before .loop .inv .0) (c .loop-test .left) s }
+returns-2 c = λ way s. record { to = ended (c .before .loop .inv .0) (c .loop-test .left) way s }
 
 pub read-each-spec : {M : Type 1} → statement M
 read-each-spec =

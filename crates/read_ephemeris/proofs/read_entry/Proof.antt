@@ -20,8 +20,8 @@ same-length c = search needs
 returns : tie.Need-returns
 unfolding run signOf widthOf
 returns c =
-    λ s. starts (when-yes _ _ _ _ _ (eq-eqb _ _ (c .before .before .before .before .before .if1 .taken)))
-    (starts (need-any _ _ 19 344 _) (c .before .before .read-run .ensures .0 names.accelerated (λ _. s)))
+    λ way s. starts (when-yes _ _ _ _ _ _ (eq-eqb _ _ (c .before .before .before .before .before .if1 .taken)))
+    (starts (need-any _ _ _ 19 344 _) (c .before .before .read-run .ensures .0 way names.accelerated (λ _. s)))
 
 slice-aggregate-read-run-2 : tie.Need-slice-aggregate-read-run-2
 slice-aggregate-read-run-2 c = search needs
@@ -35,8 +35,8 @@ same-length-2 c = search needs
 returns-2 : tie.Need-returns-2
 unfolding run signOf widthOf
 returns-2 c =
-    λ s. starts (when-no _ _ _ _ _ (ne-eqb _ _ (c .before .before .before .before .before .if1 .left)))
-    (starts (need-any _ _ 19 248 _) (c .before .before .read-run2 .ensures .0 names.motion (λ _. s)))
+    λ way s. starts (when-no _ _ _ _ _ _ (ne-eqb _ _ (c .before .before .before .before .before .if1 .left)))
+    (starts (need-any _ _ _ 19 248 _) (c .before .before .read-run2 .ensures .0 way names.motion (λ _. s)))
 
 pub read-entry-spec : {M : Type 1} → statement M
 read-entry-spec =

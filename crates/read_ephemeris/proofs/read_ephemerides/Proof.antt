@@ -5,6 +5,7 @@ use native.Mathlib.Omega.{arith}
 use borrow.Author.Needs.{needs}
 use Rattle.format.specs.Tables.{times, ephemeris, covariance}
 use Rattle.runs.specs.Lines.{run, signOf, widthOf, sizeOf}
+use Rattle.read_runs.specs.Came.{someWay}
 use Rattle.runs.proofs.Names as names
 use Rattle.read_runs.proofs.CameLaws.{done, stops, then, go-on}
 use Rattle.read_runs.proofs.Runs.{placed-on}
@@ -30,9 +31,9 @@ same-length c = search needs
 returns : tie.Need-returns
 unfolding run signOf widthOf
 returns c =
-    let a = c .before .before .before .before .before .before .before .before .before .args in
+    λ way. let a = c .before .before .before .before .before .before .before .before .before .args in
     let read-run = c .before .before .before .before .read-run in
-    stops (c .enum-told .given .1) (read-run .ensures .0 names.count (λ n. times n (ephemeris (a .accel)) (covariance (a .cov))))
+    stops (c .enum-told .given .1) (read-run .ensures .0 way names.count (λ n. times n (ephemeris (a .accel)) (covariance (a .cov))))
 
 read-each-requires : tie.Need-read-each-requires
 unfolding run signOf widthOf sizeOf
@@ -41,7 +42,7 @@ read-each-requires c κs =
     let pre = c .before .before .before .before .before .before .before .before .before .before .before .pre in
     let read-run = c .before .before .before .before .before .before .read-run in
     let head = c .before .before .head in
-    (placed-on (pre .0) (done (head .given .1) (read-run .ensures .0 names.count (λ n. times n (ephemeris (a .accel)) (covariance (a .cov))))), omega (arith, run-moved (16 ∷ []) (head .given .1) (pre .0 .within) (read-run .ensures .0), pre .1))
+    (placed-on (pre .0) (done (head .given .1) (read-run .ensures .0 someWay names.count (λ n. times n (ephemeris (a .accel)) (covariance (a .cov))))), omega (arith, run-moved (16 ∷ []) (head .given .1) (pre .0 .within) (read-run .ensures .0), pre .1))
 
 enum-known-each : tie.Need-enum-known-each
 enum-known-each c = search needs
@@ -55,10 +56,10 @@ same-length-2 c = search needs
 returns-2 : tie.Need-returns-2
 unfolding run signOf widthOf
 returns-2 c =
-    let a = c .before .before .before .before .before .before .before .before .before .before .before .before .before .before .before .before .args in
+    λ way. let a = c .before .before .before .before .before .before .before .before .before .before .before .before .before .before .before .before .args in
     let read-run = c .before .before .before .before .before .before .before .before .before .before .before .read-run in
-    then (done (c .before .before .before .before .before .before .before .head .given .1) (read-run .ensures .0 names.count (λ n. times n (ephemeris (a .accel)) (covariance (a .cov)))))
-    (stops (c .enum-told2 .given .1) (c .before .before .before .before .read-each .ensures (covariance (a .cov))))
+    then (done (c .before .before .before .before .before .before .before .head .given .1) (read-run .ensures .0 way names.count (λ n. times n (ephemeris (a .accel)) (covariance (a .cov)))))
+    (stops (c .enum-told2 .given .1) (c .before .before .before .before .read-each .ensures way (covariance (a .cov))))
 
 read-covariance-requires : tie.Need-read-covariance-requires
 unfolding run signOf widthOf
@@ -67,7 +68,7 @@ read-covariance-requires c κs =
     let pre = c .before .before .before .before .before .before .before .before .before .before .before .before .before .before .before .before .before .before .pre in
     let read-run = c .before .before .before .before .before .before .before .before .before .before .before .before .before .read-run in
     placed-on (pre .0)
-    (go-on (done (c .before .before .before .before .before .before .before .before .before .head .given .1) (read-run .ensures .0 names.count (λ n. times n (ephemeris (a .accel)) (covariance (a .cov))))) (done (c .before .before .each .given .1) (c .before .before .before .before .before .before .read-each .ensures (covariance (a .cov)))))
+    (go-on (done (c .before .before .before .before .before .before .before .before .before .head .given .1) (read-run .ensures .0 someWay names.count (λ n. times n (ephemeris (a .accel)) (covariance (a .cov))))) (done (c .before .before .each .given .1) (c .before .before .before .before .before .before .read-each .ensures someWay (covariance (a .cov)))))
 
 same-length-3 : tie.Need-same-length-3
 same-length-3 c = search needs
@@ -75,11 +76,11 @@ same-length-3 c = search needs
 returns-3 : tie.Need-returns-3
 unfolding run signOf widthOf
 returns-3 c =
-    let a = c .before .before .before .before .before .before .before .before .before .before .before .before .before .before .before .before .before .before .before .before .before .args in
+    λ way. let a = c .before .before .before .before .before .before .before .before .before .before .before .before .before .before .before .before .before .before .before .before .before .args in
     let read-run = c .before .before .before .before .before .before .before .before .before .before .before .before .before .before .before .before .read-run in
     then
-    (go-on (done (c .before .before .before .before .before .before .before .before .before .before .before .before .head .given .1) (read-run .ensures .0 names.count (λ n. times n (ephemeris (a .accel)) (covariance (a .cov))))) (done (c .before .before .before .before .before .each .given .1) (c .before .before .before .before .before .before .before .before .before .read-each .ensures (covariance (a .cov)))))
-    (c .before .before .read-covariance .ensures)
+    (go-on (done (c .before .before .before .before .before .before .before .before .before .before .before .before .head .given .1) (read-run .ensures .0 way names.count (λ n. times n (ephemeris (a .accel)) (covariance (a .cov))))) (done (c .before .before .before .before .before .each .given .1) (c .before .before .before .before .before .before .before .before .before .read-each .ensures way (covariance (a .cov)))))
+    (c .before .before .read-covariance .ensures way)
 
 pub read-ephemerides-spec : {M : Type 1} → statement M
 read-ephemerides-spec =

@@ -10,6 +10,7 @@ use borrow.Author.Tests.{eq-eqb, ne-eqb}
 use Rattle.format.specs.Syntax.{Syntax, end, when}
 use Rattle.format.specs.Tables.{bits, metadata, ephemerides}
 use Rattle.runs.specs.Lines.{run, signOf, widthOf, sizeOf}
+use Rattle.read_runs.specs.Came.{someWay}
 use Rattle.read_runs.proofs.CameLaws.{done, stops, starts, then, go-on, when-yes, when-no}
 use Rattle.read_runs.proofs.Runs.{placed-on}
 use Rattle.format.proofs.DigitLaws.{below-of}
@@ -40,9 +41,9 @@ same-length c = search needs
 returns : tie.Need-returns
 unfolding run signOf widthOf
 returns c =
-    let a = c .before .before .before .before .before .before .before .before .before .args in
+    λ way. let a = c .before .before .before .before .before .before .before .before .before .args in
     stops (c .enum-told .given .1)
-    (c .before .before .before .before .read-run .ensures .0 names.accel
+    (c .before .before .before .before .read-run .ensures .0 way names.accel
     (λ accel. bits "covariance_flag" 1 ((rest (a .meta) (a .start) (a .stop)) accel)))
 
 slice-aggregate-read-run-2 : tie.Need-slice-aggregate-read-run-2
@@ -56,7 +57,7 @@ read-run-requires-2 c κs =
     let read-run = c .before .before .before .before .before .before .before .read-run in (
       placed-on (pre .0)
           (done (c .before .before .before .fourth .given .1)
-          (read-run .ensures .0 names.accel (λ accel. bits "covariance_flag" 1 ((rest (a .meta) (a .start) (a .stop)) accel)))),
+          (read-run .ensures .0 someWay names.accel (λ accel. bits "covariance_flag" 1 ((rest (a .meta) (a .start) (a .stop)) accel)))),
       tt,
     )
 
@@ -72,13 +73,13 @@ same-length-2 c = search needs
 returns-2 : tie.Need-returns-2
 unfolding run signOf widthOf
 returns-2 c =
-    let a = c .before .before .before .before .before .before .before .before .before .before .before .before .before .before .before .before .before .args in
+    λ way. let a = c .before .before .before .before .before .before .before .before .before .before .before .before .before .before .before .before .before .args in
     let fourth = c .before .before .before .before .before .before .before .before .fourth in
     let read-run = c .before .before .before .before .before .before .before .before .before .before .before .before .read-run in
     then
-    (done (fourth .given .1) (read-run .ensures .0 names.accel (λ accel. bits "covariance_flag" 1 ((rest (a .meta) (a .start) (a .stop)) accel))))
+    (done (fourth .given .1) (read-run .ensures .0 way names.accel (λ accel. bits "covariance_flag" 1 ((rest (a .meta) (a .start) (a .stop)) accel))))
     (stops (c .enum-told2 .given .1)
-    (c .before .before .before .before .read-run2 .ensures .0 names.cov
+    (c .before .before .before .before .read-run2 .ensures .0 way names.cov
     ((rest (a .meta) (a .start) (a .stop)) (fourth .given .0 .1 .1 .0))))
 
 read-metadata-requires : tie.Need-read-metadata-requires
@@ -92,9 +93,9 @@ read-metadata-requires c κs =
     placed-on (pre .0)
     (go-on
     (done (fourth .given .1)
-    (read-run .ensures .0 names.accel (λ accel. bits "covariance_flag" 1 ((rest (a .meta) (a .start) (a .stop)) accel))))
+    (read-run .ensures .0 someWay names.accel (λ accel. bits "covariance_flag" 1 ((rest (a .meta) (a .start) (a .stop)) accel))))
     (done (c .before .before .before .fifth .given .1)
-    (read-run2 .ensures .0 names.cov ((rest (a .meta) (a .start) (a .stop)) (fourth .given .0 .1 .1 .0)))))
+    (read-run2 .ensures .0 someWay names.cov ((rest (a .meta) (a .start) (a .stop)) (fourth .given .0 .1 .1 .0)))))
 
 enum-known-about : tie.Need-enum-known-about
 enum-known-about c = search needs
@@ -108,7 +109,7 @@ same-length-3 c = search needs
 returns-3 : tie.Need-returns-3
 unfolding run signOf widthOf
 returns-3 c =
-    let a = c .before .before .before .before .before .before .before .before .before .before .before .before .before .before .before .before .before .before .before .before .before .before .before .before .before .args in
+    λ way. let a = c .before .before .before .before .before .before .before .before .before .before .before .before .before .before .before .before .before .before .before .before .before .before .before .before .before .args in
     let fifth = c .before .before .before .before .before .before .before .before .fifth in
     let fourth = c .before .before .before .before .before .before .before .before .before .before .before .before .before .before .before .before .fourth in
     let if1 = c .before .before .before .before .before .before .if1 in
@@ -117,11 +118,11 @@ returns-3 c =
     then
     (go-on
     (done (fourth .given .1)
-    (read-run .ensures .0 names.accel (λ accel. bits "covariance_flag" 1 ((rest (a .meta) (a .start) (a .stop)) accel))))
-    (done (fifth .given .1) (read-run2 .ensures .0 names.cov ((rest (a .meta) (a .start) (a .stop)) (fourth .given .0 .1 .1 .0)))))
+    (read-run .ensures .0 way names.accel (λ accel. bits "covariance_flag" 1 ((rest (a .meta) (a .start) (a .stop)) accel))))
+    (done (fifth .given .1) (read-run2 .ensures .0 way names.cov ((rest (a .meta) (a .start) (a .stop)) (fourth .given .0 .1 .1 .0)))))
     (stops (c .enum-told3 .given .1)
-    (starts (when-yes _ _ _ _ _ (eq-eqb _ _ (if1 .taken)))
-    (c .before .before .before .before .read-metadata .ensures
+    (starts (when-yes _ _ _ _ _ _ (eq-eqb _ _ (if1 .taken)))
+    (c .before .before .before .before .read-metadata .ensures way
     (ephemerides (fourth .given .0 .1 .1 .0) (fifth .given .0 .1 .1 .0)))))
 
 read-ephemerides-requires : tie.Need-read-ephemerides-requires
@@ -135,21 +136,21 @@ read-ephemerides-requires c κs =
     let read-metadata = c .before .before .before .before .before .before .read-metadata in
     let read-run = c .before .before .before .before .before .before .before .before .before .before .before .before .before .before .before .before .before .before .before .before .before .before .read-run in
     let read-run2 = c .before .before .before .before .before .before .before .before .before .before .before .before .before .before .read-run2 in
-    let flag = done (fourth .given .1) (read-run .ensures .0 names.accel (λ accel. bits "covariance_flag" 1 ((rest (a .meta) (a .start) (a .stop)) accel))) in
+    let flag = done (fourth .given .1) (read-run .ensures .0 someWay names.accel (λ accel. bits "covariance_flag" 1 ((rest (a .meta) (a .start) (a .stop)) accel))) in
     let about = c .before .before .about in
     let bytes = below-of 256 (now (a .ledger)) (λ i. omega (arith, c .before .before .before .before .before .before .before .before .before .before .before .before .before .before .before .before .before .before .before .before .before .before .before .before .before .before .shared-slice-known .given i)) in (
       placed-on (pre .0)
           (go-on
           (go-on
           (done (fourth .given .1)
-          (read-run .ensures .0 names.accel (λ accel. bits "covariance_flag" 1 ((rest (a .meta) (a .start) (a .stop)) accel))))
-          (done (fifth .given .1) (read-run2 .ensures .0 names.cov ((rest (a .meta) (a .start) (a .stop)) (fourth .given .0 .1 .1 .0)))))
+          (read-run .ensures .0 someWay names.accel (λ accel. bits "covariance_flag" 1 ((rest (a .meta) (a .start) (a .stop)) accel))))
+          (done (fifth .given .1) (read-run2 .ensures .0 someWay names.cov ((rest (a .meta) (a .start) (a .stop)) (fourth .given .0 .1 .1 .0)))))
           (done (c .before .before .about .given .1)
-          (starts (when-yes _ _ _ _ _ (eq-eqb _ _ (if1 .taken)))
-          (read-metadata .ensures (ephemerides (fourth .given .0 .1 .1 .0) (fifth .given .0 .1 .1 .0)))))),
+          (starts (when-yes _ _ _ _ _ _ (eq-eqb _ _ (if1 .taken)))
+          (read-metadata .ensures someWay (ephemerides (fourth .given .0 .1 .1 .0) (fifth .given .0 .1 .1 .0)))))),
       came-whole (fine-metadata (a .start) (a .stop)) bytes
           (omega (arith, run-moved (1 ∷ []) (fourth .given .1) (pre .0 .within) (read-run .ensures .0), run-moved (1 ∷ []) (fifth .given .1) (flag .within) (read-run2 .ensures .0), pre .1))
-          (done (about .given .1) (read-metadata .ensures end)),
+          (done (about .given .1) (read-metadata .ensures someWay end)),
     )
 
 same-length-4 : tie.Need-same-length-4
@@ -158,7 +159,7 @@ same-length-4 c = search needs
 returns-4 : tie.Need-returns-4
 unfolding run signOf widthOf
 returns-4 c =
-    let a = c .before .before .before .before .before .before .before .before .before .before .before .before .before .before .before .before .before .before .before .before .before .before .before .before .before .before .before .before .before .before .args in
+    λ way. let a = c .before .before .before .before .before .before .before .before .before .before .before .before .before .before .before .before .before .before .before .before .before .before .before .before .before .before .before .before .before .before .args in
     let fifth = c .before .before .before .before .before .before .before .before .before .before .before .before .before .fifth in
     let fourth = c .before .before .before .before .before .before .before .before .before .before .before .before .before .before .before .before .before .before .before .before .before .fourth in
     let if1 = c .before .before .before .before .before .before .before .before .before .before .before .if1 in
@@ -169,12 +170,12 @@ returns-4 c =
     (go-on
     (go-on
     (done (fourth .given .1)
-    (read-run .ensures .0 names.accel (λ accel. bits "covariance_flag" 1 ((rest (a .meta) (a .start) (a .stop)) accel))))
-    (done (fifth .given .1) (read-run2 .ensures .0 names.cov ((rest (a .meta) (a .start) (a .stop)) (fourth .given .0 .1 .1 .0)))))
+    (read-run .ensures .0 way names.accel (λ accel. bits "covariance_flag" 1 ((rest (a .meta) (a .start) (a .stop)) accel))))
+    (done (fifth .given .1) (read-run2 .ensures .0 way names.cov ((rest (a .meta) (a .start) (a .stop)) (fourth .given .0 .1 .1 .0)))))
     (done (c .before .before .before .before .before .about .given .1)
-    (starts (when-yes _ _ _ _ _ (eq-eqb _ _ (if1 .taken)))
-    (read-metadata .ensures (ephemerides (fourth .given .0 .1 .1 .0) (fifth .given .0 .1 .1 .0))))))
-    (c .before .before .read-ephemerides .ensures)
+    (starts (when-yes _ _ _ _ _ _ (eq-eqb _ _ (if1 .taken)))
+    (read-metadata .ensures way (ephemerides (fourth .given .0 .1 .1 .0) (fifth .given .0 .1 .1 .0))))))
+    (c .before .before .read-ephemerides .ensures way)
 
 read-ephemerides-requires-2 : tie.Need-read-ephemerides-requires-2
 unfolding run signOf widthOf sizeOf
@@ -184,14 +185,14 @@ read-ephemerides-requires-2 c κs =
     let pre = c .before .before .before .before .before .before .before .before .before .before .before .before .before .before .before .before .before .before .before .before .pre in
     let read-run = c .before .before .before .before .before .before .before .before .before .before .before .before .before .before .before .read-run in
     let read-run2 = c .before .before .before .before .before .before .before .read-run2 in
-    let flag = done (fourth .given .1) (read-run .ensures .0 names.accel (λ accel. bits "covariance_flag" 1 ((rest (a .meta) (a .start) (a .stop)) accel))) in
+    let flag = done (fourth .given .1) (read-run .ensures .0 someWay names.accel (λ accel. bits "covariance_flag" 1 ((rest (a .meta) (a .start) (a .stop)) accel))) in
     let fifth = c .before .before .before .fifth in (
       placed-on (pre .0)
           (go-on
           (done (fourth .given .1)
-          (read-run .ensures .0 names.accel (λ accel. bits "covariance_flag" 1 ((rest (a .meta) (a .start) (a .stop)) accel))))
+          (read-run .ensures .0 someWay names.accel (λ accel. bits "covariance_flag" 1 ((rest (a .meta) (a .start) (a .stop)) accel))))
           (done (c .before .before .before .fifth .given .1)
-          (read-run2 .ensures .0 names.cov ((rest (a .meta) (a .start) (a .stop)) (fourth .given .0 .1 .1 .0))))),
+          (read-run2 .ensures .0 someWay names.cov ((rest (a .meta) (a .start) (a .stop)) (fourth .given .0 .1 .1 .0))))),
       omega (arith, run-moved (1 ∷ []) (fourth .given .1) (pre .0 .within) (read-run .ensures .0), run-moved (1 ∷ []) (fifth .given .1) (flag .within) (read-run2 .ensures .0), pre .1),
     )
 
@@ -201,7 +202,7 @@ same-length-5 c = search needs
 returns-5 : tie.Need-returns-5
 unfolding run signOf widthOf
 returns-5 c =
-    let a = c .before .before .before .before .before .before .before .before .before .before .before .before .before .before .before .before .before .before .before .before .before .before .before .args in
+    λ way. let a = c .before .before .before .before .before .before .before .before .before .before .before .before .before .before .before .before .before .before .before .before .before .before .before .args in
     let fifth = c .before .before .before .before .before .before .fifth in
     let fourth = c .before .before .before .before .before .before .before .before .before .before .before .before .before .before .fourth in
     let read-run = c .before .before .before .before .before .before .before .before .before .before .before .before .before .before .before .before .before .before .read-run in
@@ -209,9 +210,9 @@ returns-5 c =
     then
     (go-on
     (done (fourth .given .1)
-    (read-run .ensures .0 names.accel (λ accel. bits "covariance_flag" 1 ((rest (a .meta) (a .start) (a .stop)) accel))))
-    (done (fifth .given .1) (read-run2 .ensures .0 names.cov ((rest (a .meta) (a .start) (a .stop)) (fourth .given .0 .1 .1 .0)))))
-    (starts (when-no _ _ _ _ _ (ne-eqb _ _ (c .before .before .before .before .if1 .left))) (c .before .before .read-ephemerides2 .ensures))
+    (read-run .ensures .0 way names.accel (λ accel. bits "covariance_flag" 1 ((rest (a .meta) (a .start) (a .stop)) accel))))
+    (done (fifth .given .1) (read-run2 .ensures .0 way names.cov ((rest (a .meta) (a .start) (a .stop)) (fourth .given .0 .1 .1 .0)))))
+    (starts (when-no _ _ _ _ _ _ (ne-eqb _ _ (c .before .before .before .before .if1 .left))) (c .before .before .read-ephemerides2 .ensures way))
 
 pub read-flagged-spec : {M : Type 1} → statement M
 read-flagged-spec =

@@ -4,6 +4,7 @@ use borrow.Author.Needs.{needs}
 use Rattle.format.specs.Syntax.{Syntax, end}
 use Rattle.format.specs.Tables.{usable}
 use Rattle.runs.specs.Lines.{run, signOf, widthOf}
+use Rattle.read_runs.specs.Came.{someWay}
 use Rattle.read_runs.proofs.CameLaws.{done, stops, starts, then, go-on, need-any}
 use Rattle.read_runs.proofs.Runs.{placed-on}
 use Rattle.runs.proofs.Names as names
@@ -28,10 +29,10 @@ same-length c = search needs
 returns : tie.Need-returns
 unfolding run signOf widthOf
 returns c =
-    let a = c .before .before .before .before .before .before .before .before .before .args in
+    λ way. let a = c .before .before .before .before .before .before .before .before .before .args in
     λ s. stops (c .enum-told .given .1)
-    (starts (need-any _ _ 16 120 _)
-    (c .before .before .before .before .read-run .ensures .0 names.metadata
+    (starts (need-any _ _ _ 16 120 _)
+    (c .before .before .before .before .read-run .ensures .0 way names.metadata
     (λ _. usable 17 "usable_start_time" (a .start) (usable 18 "usable_stop_time" (a .stop) s))))
 
 read-usable-requires : tie.Need-read-usable-requires
@@ -42,8 +43,8 @@ read-usable-requires c κs =
     let read-run = c .before .before .before .before .before .before .read-run in
     let s : Syntax = end in placed-on pre
     (done (c .before .before .times .given .1)
-    (starts (need-any _ _ 16 120 _)
-    (read-run .ensures .0 names.metadata
+    (starts (need-any _ _ _ 16 120 _)
+    (read-run .ensures .0 someWay names.metadata
     (λ _. usable 17 "usable_start_time" (a .start) (usable 18 "usable_stop_time" (a .stop) s)))))
 
 enum-known-first : tie.Need-enum-known-first
@@ -58,16 +59,16 @@ same-length-2 c = search needs
 returns-2 : tie.Need-returns-2
 unfolding run signOf widthOf
 returns-2 c =
-    let a = c .before .before .before .before .before .before .before .before .before .before .before .before .before .before .before .before .args in
+    λ way. let a = c .before .before .before .before .before .before .before .before .before .before .before .before .before .before .before .before .args in
     let read-run = c .before .before .before .before .before .before .before .before .before .before .before .read-run in
     let times = c .before .before .before .before .before .before .before .times in
     λ s. then
     (done (times .given .1)
-    (starts (need-any _ _ 16 120 _)
-    (read-run .ensures .0 names.metadata
+    (starts (need-any _ _ _ 16 120 _)
+    (read-run .ensures .0 way names.metadata
     (λ _. usable 17 "usable_start_time" (a .start) (usable 18 "usable_stop_time" (a .stop) s)))))
     (stops (c .enum-told2 .given .1)
-    (c .before .before .before .before .read-usable .ensures 17 "usable_start_time" (usable 18 "usable_stop_time" (a .stop) s)))
+    (c .before .before .before .before .read-usable .ensures way 17 "usable_start_time" (usable 18 "usable_stop_time" (a .stop) s)))
 
 read-usable-requires-2 : tie.Need-read-usable-requires-2
 unfolding run signOf widthOf
@@ -80,10 +81,10 @@ read-usable-requires-2 c κs =
     let s : Syntax = end in placed-on pre
     (go-on
     (done (times .given .1)
-    (starts (need-any _ _ 16 120 _)
-    (read-run .ensures .0 names.metadata
+    (starts (need-any _ _ _ 16 120 _)
+    (read-run .ensures .0 someWay names.metadata
     (λ _. usable 17 "usable_start_time" (a .start) (usable 18 "usable_stop_time" (a .stop) s)))))
-    (done (c .before .before .first .given .1) (read-usable .ensures 17 "usable_start_time" (usable 18 "usable_stop_time" (a .stop) s))))
+    (done (c .before .before .first .given .1) (read-usable .ensures someWay 17 "usable_start_time" (usable 18 "usable_stop_time" (a .stop) s))))
 
 same-length-3 : tie.Need-same-length-3
 same-length-3 c = search needs
@@ -91,19 +92,19 @@ same-length-3 c = search needs
 returns-3 : tie.Need-returns-3
 unfolding run signOf widthOf
 returns-3 c =
-    let a = c .before .before .before .before .before .before .before .before .before .before .before .before .before .before .before .before .before .before .before .before .before .args in
+    λ way. let a = c .before .before .before .before .before .before .before .before .before .before .before .before .before .before .before .before .before .before .before .before .before .args in
     let read-run = c .before .before .before .before .before .before .before .before .before .before .before .before .before .before .before .before .read-run in
     let read-usable = c .before .before .before .before .before .before .before .before .before .read-usable in
     let times = c .before .before .before .before .before .before .before .before .before .before .before .before .times in
     λ s. then
     (go-on
     (done (times .given .1)
-    (starts (need-any _ _ 16 120 _)
-    (read-run .ensures .0 names.metadata
+    (starts (need-any _ _ _ 16 120 _)
+    (read-run .ensures .0 way names.metadata
     (λ _. usable 17 "usable_start_time" (a .start) (usable 18 "usable_stop_time" (a .stop) s)))))
     (done (c .before .before .before .before .before .first .given .1)
-    (read-usable .ensures 17 "usable_start_time" (usable 18 "usable_stop_time" (a .stop) s))))
-    (c .before .before .read-usable2 .ensures 18 "usable_stop_time" s)
+    (read-usable .ensures way 17 "usable_start_time" (usable 18 "usable_stop_time" (a .stop) s))))
+    (c .before .before .read-usable2 .ensures way 18 "usable_stop_time" s)
 
 pub read-metadata-spec : {M : Type 1} → statement M
 read-metadata-spec =

@@ -5,6 +5,7 @@ use native.Mathlib.Omega.{arith}
 use borrow.Author.Needs.{needs}
 use Rattle.format.specs.Tables.{bits, position3}
 use Rattle.runs.specs.Lines.{run, signOf, widthOf, sizeOf}
+use Rattle.read_runs.specs.Came.{someWay}
 use Rattle.read_runs.proofs.CameLaws.{done, stops, then, go-on}
 use Rattle.read_runs.proofs.Runs.{placed-on}
 use Rattle.read_runs.proofs.Moved.{run-moved}
@@ -31,8 +32,8 @@ same-length c = search needs
 returns : tie.Need-returns
 unfolding position3 run signOf widthOf
 returns c =
-    stops (c .enum-told .given .1)
-    (c .before .before .before .before .read-run .ensures .0 names.satellite3
+    λ way. stops (c .enum-told .given .1)
+    (c .before .before .before .before .read-run .ensures .0 way names.satellite3
     (λ meta. bits "usable_start_time_flag" 1 (λ start. bits "usable_stop_time_flag" 1 (flagged meta start))))
 
 slice-aggregate-read-run-2 : tie.Need-slice-aggregate-read-run-2
@@ -45,7 +46,7 @@ read-run-requires-2 c κs =
     let read-run = c .before .before .before .before .before .before .before .read-run in (
       placed-on (pre .0)
           (done (c .before .before .before .head .given .1)
-          (read-run .ensures .0 names.satellite3
+          (read-run .ensures .0 someWay names.satellite3
           (λ meta. bits "usable_start_time_flag" 1 (λ start. bits "usable_stop_time_flag" 1 (flagged meta start))))),
       tt,
     )
@@ -62,14 +63,14 @@ same-length-2 c = search needs
 returns-2 : tie.Need-returns-2
 unfolding position3 run signOf widthOf
 returns-2 c =
-    let head = c .before .before .before .before .before .before .before .before .head in
+    λ way. let head = c .before .before .before .before .before .before .before .before .head in
     let read-run = c .before .before .before .before .before .before .before .before .before .before .before .before .read-run in
     then
     (done (head .given .1)
-    (read-run .ensures .0 names.satellite3
+    (read-run .ensures .0 way names.satellite3
     (λ meta. bits "usable_start_time_flag" 1 (λ start. bits "usable_stop_time_flag" 1 (flagged meta start)))))
     (stops (c .enum-told2 .given .1)
-    (c .before .before .before .before .read-run2 .ensures .0 names.start
+    (c .before .before .before .before .read-run2 .ensures .0 way names.start
     (λ start. bits "usable_stop_time_flag" 1 (flagged (head .given .0 .1 .1 .0) start))))
 
 slice-aggregate-read-run-3 : tie.Need-slice-aggregate-read-run-3
@@ -85,10 +86,10 @@ read-run-requires-3 c κs =
       placed-on (pre .0)
           (go-on
           (done (head .given .1)
-          (read-run .ensures .0 names.satellite3
+          (read-run .ensures .0 someWay names.satellite3
           (λ meta. bits "usable_start_time_flag" 1 (λ start. bits "usable_stop_time_flag" 1 (flagged meta start)))))
           (done (c .before .before .before .second .given .1)
-          (read-run2 .ensures .0 names.start (λ start. bits "usable_stop_time_flag" 1 (flagged (head .given .0 .1 .1 .0) start))))),
+          (read-run2 .ensures .0 someWay names.start (λ start. bits "usable_stop_time_flag" 1 (flagged (head .given .0 .1 .1 .0) start))))),
       tt,
     )
 
@@ -104,19 +105,19 @@ same-length-3 c = search needs
 returns-3 : tie.Need-returns-3
 unfolding position3 run signOf widthOf
 returns-3 c =
-    let head = c .before .before .before .before .before .before .before .before .before .before .before .before .before .before .before .before .head in
+    λ way. let head = c .before .before .before .before .before .before .before .before .before .before .before .before .before .before .before .before .head in
     let read-run = c .before .before .before .before .before .before .before .before .before .before .before .before .before .before .before .before .before .before .before .before .read-run in
     let read-run2 = c .before .before .before .before .before .before .before .before .before .before .before .before .read-run2 in
     let second = c .before .before .before .before .before .before .before .before .second in
     then
     (go-on
     (done (head .given .1)
-    (read-run .ensures .0 names.satellite3
+    (read-run .ensures .0 way names.satellite3
     (λ meta. bits "usable_start_time_flag" 1 (λ start. bits "usable_stop_time_flag" 1 (flagged meta start)))))
     (done (second .given .1)
-    (read-run2 .ensures .0 names.start (λ start. bits "usable_stop_time_flag" 1 (flagged (head .given .0 .1 .1 .0) start)))))
+    (read-run2 .ensures .0 way names.start (λ start. bits "usable_stop_time_flag" 1 (flagged (head .given .0 .1 .1 .0) start)))))
     (stops (c .enum-told3 .given .1)
-    (c .before .before .before .before .read-run3 .ensures .0 names.stop (flagged (head .given .0 .1 .1 .0) (second .given .0 .1 .1 .0))))
+    (c .before .before .before .before .read-run3 .ensures .0 way names.stop (flagged (head .given .0 .1 .1 .0) (second .given .0 .1 .1 .0))))
 
 read-flagged-requires : tie.Need-read-flagged-requires
 unfolding run signOf widthOf sizeOf
@@ -127,20 +128,20 @@ read-flagged-requires c κs =
     let read-run2 = c .before .before .before .before .before .before .before .before .before .before .before .before .before .before .read-run2 in
     let read-run3 = c .before .before .before .before .before .before .read-run3 in
     let second = c .before .before .before .before .before .before .before .before .before .before .second in
-    let w = (done (head .given .1) (read-run .ensures .0 names.satellite3 (λ meta. bits "usable_start_time_flag" 1 (λ start. bits "usable_stop_time_flag" 1 (flagged meta start))))) in
-    let w2 = (done (second .given .1) (read-run2 .ensures .0 names.start (λ start. bits "usable_stop_time_flag" 1 (flagged (head .given .0 .1 .1 .0) start)))) in
+    let w = (done (head .given .1) (read-run .ensures .0 someWay names.satellite3 (λ meta. bits "usable_start_time_flag" 1 (λ start. bits "usable_stop_time_flag" 1 (flagged meta start))))) in
+    let w2 = (done (second .given .1) (read-run2 .ensures .0 someWay names.start (λ start. bits "usable_stop_time_flag" 1 (flagged (head .given .0 .1 .1 .0) start)))) in
     let third = c .before .before .third in (
       placed-on (pre .0)
           (go-on
           (go-on
           (done (head .given .1)
-          (read-run .ensures .0 names.satellite3
+          (read-run .ensures .0 someWay names.satellite3
           (λ meta. bits "usable_start_time_flag" 1 (λ start. bits "usable_stop_time_flag" 1 (flagged meta start)))))
           (done (second .given .1)
-          (read-run2 .ensures .0 names.start
+          (read-run2 .ensures .0 someWay names.start
           (λ start. bits "usable_stop_time_flag" 1 (flagged (head .given .0 .1 .1 .0) start)))))
           (done (c .before .before .third .given .1)
-          (read-run3 .ensures .0 names.stop (flagged (head .given .0 .1 .1 .0) (second .given .0 .1 .1 .0))))),
+          (read-run3 .ensures .0 someWay names.stop (flagged (head .given .0 .1 .1 .0) (second .given .0 .1 .1 .0))))),
       omega (
         arith,
         run-moved (24 ∷ 3 ∷ 1 ∷ []) (head .given .1) (pre .0 .within) (read-run .ensures .0),
@@ -163,20 +164,20 @@ same-length-4 c =
       (go-on
           (go-on
           (done (head .given .1)
-          (read-run .ensures .0 names.satellite3
+          (read-run .ensures .0 someWay names.satellite3
           (λ meta. bits "usable_start_time_flag" 1
           (λ start. bits "usable_stop_time_flag" 1 (flagged meta start)))))
           (done (second .given .1)
-          (read-run2 .ensures .0 names.start
+          (read-run2 .ensures .0 someWay names.start
           (λ start. bits "usable_stop_time_flag" 1 (flagged (head .given .0 .1 .1 .0) start)))))
           (done (c .before .before .before .before .before .third .given .1)
-          (read-run3 .ensures .0 names.stop (flagged (head .given .0 .1 .1 .0) (second .given .0 .1 .1 .0))))) .long,
+          (read-run3 .ensures .0 someWay names.stop (flagged (head .given .0 .1 .1 .0) (second .given .0 .1 .1 .0))))) .long,
     )
 
 returns-4 : tie.Need-returns-4
 unfolding position3 run signOf widthOf
 returns-4 c =
-    let head = c .before .before .before .before .before .before .before .before .before .before .before .before .before .before .before .before .before .before .before .before .before .head in
+    λ way. let head = c .before .before .before .before .before .before .before .before .before .before .before .before .before .before .before .before .before .before .before .before .before .head in
     let read-run = c .before .before .before .before .before .before .before .before .before .before .before .before .before .before .before .before .before .before .before .before .before .before .before .before .before .read-run in
     let read-run2 = c .before .before .before .before .before .before .before .before .before .before .before .before .before .before .before .before .before .read-run2 in
     let read-run3 = c .before .before .before .before .before .before .before .before .before .read-run3 in
@@ -185,14 +186,14 @@ returns-4 c =
     (go-on
     (go-on
     (done (head .given .1)
-    (read-run .ensures .0 names.satellite3
+    (read-run .ensures .0 way names.satellite3
     (λ meta. bits "usable_start_time_flag" 1 (λ start. bits "usable_stop_time_flag" 1 (flagged meta start)))))
     (done (second .given .1)
-    (read-run2 .ensures .0 names.start
+    (read-run2 .ensures .0 way names.start
     (λ start. bits "usable_stop_time_flag" 1 (flagged (head .given .0 .1 .1 .0) start)))))
     (done (c .before .before .before .before .before .third .given .1)
-    (read-run3 .ensures .0 names.stop (flagged (head .given .0 .1 .1 .0) (second .given .0 .1 .1 .0)))))
-    (c .before .before .read-flagged .ensures)
+    (read-run3 .ensures .0 way names.stop (flagged (head .given .0 .1 .1 .0) (second .given .0 .1 .1 .0)))))
+    (c .before .before .read-flagged .ensures way)
 
 pub read-position3-spec : {M : Type 1} → statement M
 read-position3-spec =

@@ -8,6 +8,7 @@ use Rattle.read_runs.proofs.CameLaws.{done, stops, starts, then, go-on, need-an
 use Rattle.read_runs.proofs.Runs.{placed-on}
 use Rattle.write_runs.proofs.Runs.{last-of}
 use Rattle.write_plans.proofs.Names.{sizeNames, slotNames, afterSize}
+use Rattle.read_runs.specs.Came.{someWay}
 use Rattle.read_plans.proofs.read_bitmap.Statement.{statement}
 use Rattle.read_plans.proofs.read_bitmap.Tie as tie
 
@@ -28,7 +29,7 @@ same-length c = search needs
 
 returns : tie.Need-returns
 unfolding run signOf widthOf
-returns c = starts (need-any _ _ _ _ _) (stops (c .enum-told .given .1) (c .before .before .before .before .read-run .ensures .0 sizeNames afterSize))
+returns c = λ way. starts (need-any _ _ _ _ _ _) (stops (c .enum-told .given .1) (c .before .before .before .before .read-run .ensures .0 way sizeNames afterSize))
 
 slice-aggregate-read-run-2 : tie.Need-slice-aggregate-read-run-2
 slice-aggregate-read-run-2 c = search needs
@@ -37,7 +38,7 @@ read-run-requires-2 : tie.Need-read-run-requires-2
 read-run-requires-2 c κs =
     let pre = c .before .before .before .before .before .before .before .before .before .before .before .before .pre in
     let read-run = c .before .before .before .before .before .before .before .read-run in
-    (placed-on pre (done (c .before .before .before .size .given .1) (read-run .ensures .0 sizeNames afterSize)), tt)
+    (placed-on pre (done (c .before .before .before .size .given .1) (read-run .ensures .0 someWay sizeNames afterSize)), tt)
 
 enum-known-current : tie.Need-enum-known-current
 enum-known-current c = search needs
@@ -53,10 +54,10 @@ unfolding run signOf widthOf
 returns-2 c =
     let read-run = c .before .before .before .before .before .before .before .before .before .before .before .before .read-run in
     let size = c .before .before .before .before .before .before .before .before .size in
-    starts (need-any _ _ _ _ _)
-    (then (done (size .given .1) (read-run .ensures .0 sizeNames afterSize))
+    λ way. starts (need-any _ _ _ _ _ _)
+    (then (done (size .given .1) (read-run .ensures .0 way sizeNames afterSize))
     (stops (c .enum-told2 .given .1)
-    (c .before .before .before .before .read-run2 .ensures .0 slotNames
+    (c .before .before .before .before .read-run2 .ensures .0 way slotNames
     (λ _. slots "slot_transmission_on" 12 (size .given .0 .1 .1 .0) end))))
 
 read-slots-requires : tie.Need-read-slots-requires
@@ -67,9 +68,9 @@ read-slots-requires c κs =
     let read-run2 = c .before .before .before .before .before .before .read-run2 in
     let size = c .before .before .before .before .before .before .before .before .before .before .size in (
       placed-on pre
-          (go-on (done (size .given .1) (read-run .ensures .0 sizeNames afterSize))
+          (go-on (done (size .given .1) (read-run .ensures .0 someWay sizeNames afterSize))
           (done (c .before .before .current .given .1)
-          (read-run2 .ensures .0 slotNames (λ _. slots "slot_transmission_on" 12 (size .given .0 .1 .1 .0) end)))),
+          (read-run2 .ensures .0 someWay slotNames (λ _. slots "slot_transmission_on" 12 (size .given .0 .1 .1 .0) end)))),
       omega (arith, last-of (size .given .1) (read-run .ensures .1)),
     )
 
@@ -82,12 +83,12 @@ returns-3 c =
     let read-run = c .before .before .before .before .before .before .before .before .before .before .before .before .before .before .before .before .before .read-run in
     let read-run2 = c .before .before .before .before .before .before .before .before .before .read-run2 in
     let size = c .before .before .before .before .before .before .before .before .before .before .before .before .before .size in
-    starts (need-any _ _ _ _ _)
+    λ way. starts (need-any _ _ _ _ _ _)
     (then
-    (go-on (done (size .given .1) (read-run .ensures .0 sizeNames afterSize))
+    (go-on (done (size .given .1) (read-run .ensures .0 way sizeNames afterSize))
     (done (c .before .before .before .before .before .current .given .1)
-    (read-run2 .ensures .0 slotNames (λ _. slots "slot_transmission_on" 12 (size .given .0 .1 .1 .0) end))))
-    (c .before .before .read-slots .ensures "slot_transmission_on" end))
+    (read-run2 .ensures .0 way slotNames (λ _. slots "slot_transmission_on" 12 (size .given .0 .1 .1 .0) end))))
+    (c .before .before .read-slots .ensures way "slot_transmission_on" end))
 
 pub read-bitmap-spec : {M : Type 1} → statement M
 read-bitmap-spec =

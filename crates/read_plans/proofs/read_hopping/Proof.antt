@@ -8,6 +8,7 @@ use Rattle.runs.specs.Lines.{signOf, widthOf, sizeOf, run}
 use Rattle.read_runs.proofs.CameLaws.{done, stops, then, go-on}
 use Rattle.read_runs.proofs.Runs.{placed-on}
 use Rattle.write_plans.proofs.Names.{modeNames, timeNames, afterMode}
+use Rattle.read_runs.specs.Came.{someWay}
 use Rattle.read_runs.proofs.Moved.{run-moved}
 use Rattle.read_plans.proofs.TakenLaws.{spared, spared-no}
 use Rattle.read_plans.proofs.read_hopping.Statement.{statement}
@@ -31,7 +32,7 @@ same-length c = search needs
 returns : tie.Need-returns
 unfolding run signOf widthOf
 returns c =
-    (stops (c .enum-told .given .1) (c .before .before .before .before .read-run .ensures .0 modeNames afterMode), spared-no (c .enum-told .given .1))
+    (λ way. stops (c .enum-told .given .1) (c .before .before .before .before .read-run .ensures .0 way modeNames afterMode), spared-no (c .enum-told .given .1))
 
 slice-aggregate-read-run-2 : tie.Need-slice-aggregate-read-run-2
 slice-aggregate-read-run-2 c = search needs
@@ -40,7 +41,7 @@ read-run-requires-2 : tie.Need-read-run-requires-2
 read-run-requires-2 c κs =
     let pre = c .before .before .before .before .before .before .before .before .before .before .before .before .pre in
     let read-run = c .before .before .before .before .before .before .before .read-run in
-    (placed-on pre (done (c .before .before .before .head .given .1) (read-run .ensures .0 modeNames afterMode)), tt)
+    (placed-on pre (done (c .before .before .before .head .given .1) (read-run .ensures .0 someWay modeNames afterMode)), tt)
 
 enum-known-clocks : tie.Need-enum-known-clocks
 enum-known-clocks c = search needs
@@ -56,9 +57,9 @@ unfolding run signOf widthOf
 returns-2 c =
     let head = c .before .before .before .before .before .before .before .before .head in
     let read-run = c .before .before .before .before .before .before .before .before .before .before .before .before .read-run in (
-      then (done (head .given .1) (read-run .ensures .0 modeNames afterMode))
+      λ way. then (done (head .given .1) (read-run .ensures .0 way modeNames afterMode))
           (stops (c .enum-told2 .given .1)
-          (c .before .before .before .before .read-run2 .ensures .0 timeNames (λ _. mode (head .given .0 .1 .1 .0)))),
+          (c .before .before .before .before .read-run2 .ensures .0 way timeNames (λ _. mode (head .given .0 .1 .1 .0)))),
       spared-no (c .enum-told2 .given .1),
     )
 
@@ -70,8 +71,8 @@ read-mode-requires c κs =
     let read-run = c .before .before .before .before .before .before .before .before .before .before .before .before .before .before .read-run in
     let read-run2 = c .before .before .before .before .before .before .read-run2 in
     placed-on pre
-    (go-on (done (head .given .1) (read-run .ensures .0 modeNames afterMode))
-    (done (c .before .before .clocks .given .1) (read-run2 .ensures .0 timeNames (λ _. mode (head .given .0 .1 .1 .0)))))
+    (go-on (done (head .given .1) (read-run .ensures .0 someWay modeNames afterMode))
+    (done (c .before .before .clocks .given .1) (read-run2 .ensures .0 someWay timeNames (λ _. mode (head .given .0 .1 .1 .0)))))
 
 same-length-3 : tie.Need-same-length-3
 same-length-3 c = search needs
@@ -79,17 +80,17 @@ same-length-3 c = search needs
 returns-3 : tie.Need-returns-3
 unfolding run signOf widthOf sizeOf
 returns-3 c = (
-  then
+  λ way. then
       (go-on
       (done
       (c .before .before .before .before .before .before .before .before .before .before .before .before .before .head .given .1)
       (c .before .before .before .before .before .before .before .before .before .before .before .before .before .before .before .before .before .read-run .ensures .0
-      modeNames afterMode))
+      way modeNames afterMode))
       (done (c .before .before .before .before .before .clocks .given .1)
-      (c .before .before .before .before .before .before .before .before .before .read-run2 .ensures .0 timeNames
+      (c .before .before .before .before .before .before .before .before .before .read-run2 .ensures .0 way timeNames
       (λ _. mode
       (c .before .before .before .before .before .before .before .before .before .before .before .before .before .head .given .0 .1 .1 .0)))))
-      (c .before .before .read-mode .ensures),
+      (c .before .before .read-mode .ensures way),
   spared
       (omega (
         arith,
@@ -98,11 +99,11 @@ returns-3 c = (
             (c .before .before .before .before .before .before .before .before .before .before .before .before .before .before .before .before .before .before .before .before .before .before .pre .within)
             (c .before .before .before .before .before .before .before .before .before .before .before .before .before .before .before .before .before .read-run .ensures .0)),
         done (c .before .before .before .before .before .clocks .given .1)
-            (c .before .before .before .before .before .before .before .before .before .read-run2 .ensures .0 timeNames
+            (c .before .before .before .before .before .before .before .before .before .read-run2 .ensures .0 someWay timeNames
             (λ _. mode
             (c .before .before .before .before .before .before .before .before .before .before .before .before .before .head .given .0 .1 .1 .0))) .slack,
       ))
-      (c .before .before .read-mode .ensures),
+      (c .before .before .read-mode .ensures someWay),
 )
 
 pub read-hopping-spec : {M : Type 1} → statement M

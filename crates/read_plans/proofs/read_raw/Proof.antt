@@ -12,7 +12,7 @@ sub-if1 : tie.Need-sub-if1
 sub-if1 c = search needs
 
 returns : tie.Need-returns
-returns c = λ nm. record { to = raw-short _ _ nm (c .before .before .before .pre .within) (c .if1 .taken) }
+returns c = λ way nm. record { to = raw-short _ _ _ nm (c .before .before .before .pre .within) (c .if1 .taken) }
 
 get-be-requires : tie.Need-get-be-requires
 get-be-requires c κs = search needs
@@ -25,8 +25,8 @@ sub-if2 c = search needs
 
 returns-2 : tie.Need-returns-2
 returns-2 c =
-    λ nm. record
-    { to = raw-missing _ _ nm (c .before .before .before .before .before .pre .within) _ (c .before .before .if1 .left) (c .before .get-be .ensures) (c .if2 .taken) }
+    λ way nm. record
+    { to = raw-missing _ _ _ nm (c .before .before .before .before .before .pre .within) _ (c .before .before .if1 .left) (c .before .get-be .ensures) (c .if2 .taken) }
 
 add-end : tie.Need-add-end
 add-end c = search needs
@@ -58,8 +58,8 @@ returns-3 c =
     let get-be = c .before .before .before .before .before .before .get-be in
     let if1 = c .before .before .before .before .before .before .before .if1 in
     let pre = c .before .before .before .before .before .before .before .before .before .before .pre in
-    λ nm. record
-    { to = raw-came _ _ nm (pre .within) _ (if1 .left) (get-be .ensures) (c .before .before .before .before .before .if2 .left) (part-of (a .ledger .now) (a .place + 2) (get-be .result)) (fits _ _ _ _ _ (c .before .before .lay-bytes .ensures) (length-bits _)) (search needs) }
+    λ way nm. record
+    { to = raw-came _ _ _ nm (pre .within) _ (if1 .left) (get-be .ensures) (c .before .before .before .before .before .if2 .left) (part-of (a .ledger .now) (a .place + 2) (get-be .result)) (fits _ _ _ _ _ (c .before .before .lay-bytes .ensures) (length-bits _)) (search needs) }
 
 pub read-raw-spec : {M : Type 1} → statement M
 read-raw-spec =

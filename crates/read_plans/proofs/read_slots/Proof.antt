@@ -16,7 +16,7 @@ sub-if1 : tie.Need-sub-if1
 sub-if1 c = search needs
 
 returns : tie.Need-returns
-returns c = λ nm s. record { to = slots-missing _ _ _ nm s (c .before .before .before .pre .0 .within) (c .if1 .taken) }
+returns c = λ way nm s. record { to = slots-missing _ _ _ _ nm s (c .before .before .before .pre .0 .within) (c .if1 .taken) }
 
 add-end : tie.Need-add-end
 add-end c = search needs
@@ -43,8 +43,8 @@ returns-2 : tie.Need-returns-2
 returns-2 c =
     let a = c .before .before .before .before .before .before .args in
     let pre = c .before .before .before .before .before .before .pre in
-    λ nm s. record
-    { to = slots-wrong _ _ _ _ (pre .0 .within) (c .before .before .before .if1 .left) (part-of (a .ledger .now) (a .place) (wholes (a .m))) nm s (λ z. c .if2 .taken (c .before .value-at .ensures ∙ z)) }
+    λ way nm s. record
+    { to = slots-wrong _ _ _ _ _ (pre .0 .within) (c .before .before .before .if1 .left) (part-of (a .ledger .now) (a .place) (wholes (a .m))) nm s (λ z. c .if2 .taken (c .before .value-at .ensures ∙ z)) }
 
 lay-bytes-requires : tie.Need-lay-bytes-requires
 lay-bytes-requires c κs = search needs
@@ -63,8 +63,8 @@ returns-3 c =
     let a = c .before .before .before .before .before .before .before .before .before .before .args in
     let if1 = c .before .before .before .before .before .before .before .if1 in
     let pre = c .before .before .before .before .before .before .before .before .before .before .pre in
-    λ nm s. record
-    { to = slots-came _ _ _ _ (pre .0 .within) (if1 .left) (part-of (a .ledger .now) (a .place) (wholes (a .m))) nm s (sym (c .before .before .before .before .before .value-at .ensures) ∙ c .before .before .before .before .if2 .left) (fits _ _ _ _ _ (c .before .before .lay-bytes .ensures) (length-bits _)) (search needs) }
+    λ way nm s. record
+    { to = slots-came _ _ _ _ _ (pre .0 .within) (if1 .left) (part-of (a .ledger .now) (a .place) (wholes (a .m))) nm s (sym (c .before .before .before .before .before .value-at .ensures) ∙ c .before .before .before .before .if2 .left) (fits _ _ _ _ _ (c .before .before .lay-bytes .ensures) (length-bits _)) (search needs) }
 
 pub read-slots-spec : {M : Type 1} → statement M
 read-slots-spec =

@@ -22,8 +22,8 @@ sub-if1 c = search needs
 
 returns : tie.Need-returns
 returns c = (
-  λ nm k. record
-      { to = missing _ _ nm _ k (c .before .size-of .ensures) ((c .before .before .before .before .pre .0) .within) (c .if1 .taken) },
+  λ way nm k. record
+      { to = missing _ _ _ nm _ k (c .before .size-of .ensures) ((c .before .before .before .before .pre .0) .within) (c .if1 .taken) },
   pow-pos _,
 )
 
@@ -56,7 +56,7 @@ returns-2 c =
     let number = c .before .before .before .get-be .ensures in
     let low = c .before .before .low-of .ensures in
     let shown = c .before .shown-of .ensures in
-    (λ nm k. record { to = wrong _ _ nm (a .mark) k size ((pre .0) .within) there number low (λ z. c .if2 .taken (shown ∙ z)) }, pow-pos _)
+    (λ way nm k. record { to = wrong _ _ _ nm (a .mark) k size ((pre .0) .within) there number low (λ z. c .if2 .taken (shown ∙ z)) }, pow-pos _)
 
 width-of-requires : tie.Need-width-of-requires
 width-of-requires c κs = search needs
@@ -90,7 +90,7 @@ returns-3 c =
     let right = c .before .before .if2 .left in
     let width = c .before .width-of .ensures in
     let some = mark-facts (a .mark) (pre .1) .some in (
-      λ nm k. record {
+      λ way nm k. record {
         to = line-done nm (a .mark) k (pre .1) width size ((pre .0) .within) there (number .ensures) low (sym shown ∙ right) (λ h. absurd (omega (arith, c .if3 .taken, some, width))) (refl);
       },
       rw low (mod-lt (number .result) (pow-pos (widthOf (a .mark)))),
@@ -124,7 +124,7 @@ returns-4 c =
     let shown = c .before .before .before .before .before .before .before .shown-of .ensures in
     let right = c .before .before .before .before .before .before .if2 .left in
     let width = c .before .before .before .before .before .width-of .ensures in (
-      λ nm k. record {
+      λ way nm k. record {
         to = line-done nm (a .mark) k (pre .1) width size ((pre .0) .within) there (number .ensures) low (sym shown ∙ right) (fits (now (a .out)) _ _ _ _ (c .before .before .lay .ensures) (length-digits 2 _ _)) (search needs);
       },
       rw low (mod-lt (number .result) (pow-pos (widthOf (a .mark)))),

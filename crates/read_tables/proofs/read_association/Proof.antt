@@ -7,6 +7,7 @@ use borrow.Author.Tests.{eq-eqb, ne-eqb}
 use Rattle.format.specs.Syntax.{Syntax, when, end}
 use Rattle.format.specs.Tables.{u, association, leap, time}
 use Rattle.runs.specs.Lines.{run, signOf, widthOf}
+use Rattle.read_runs.specs.Came.{someWay}
 use Rattle.read_runs.proofs.CameLaws.{done, stops, starts, then, when-yes, when-no, need-any}
 use Rattle.read_runs.proofs.Runs.{placed-on}
 use Rattle.runs.proofs.Names as names
@@ -34,8 +35,8 @@ same-length c = search needs
 returns : tie.Need-returns
 unfolding association run signOf widthOf
 returns c =
-    stops (c .enum-told .given .1)
-    (starts (need-any _ _ 2 1 _) (starts (need-any _ _ 9 152 _) (c .before .before .before .before .read-run .ensures .0 names.type rest)))
+    λ way. stops (c .enum-told .given .1)
+    (starts (need-any _ _ _ 2 1 _) (starts (need-any _ _ _ 9 152 _) (c .before .before .before .before .read-run .ensures .0 way names.type rest)))
 
 slice-aggregate-read-run-2 : tie.Need-slice-aggregate-read-run-2
 slice-aggregate-read-run-2 c = search needs
@@ -46,7 +47,7 @@ read-run-requires-2 c κs =
     let read-run = c .before .before .before .before .before .before .before .before .read-run in (
       placed-on pre
           (done (c .before .before .before .before .head .given .1)
-          (starts (need-any _ _ 2 1 _) (starts (need-any _ _ 9 152 _) (read-run .ensures .0 names.type rest)))),
+          (starts (need-any _ _ _ 2 1 _) (starts (need-any _ _ _ 9 152 _) (read-run .ensures .0 someWay names.type rest)))),
       tt,
     )
 
@@ -56,11 +57,11 @@ same-length-2 c = search needs
 returns-2 : tie.Need-returns-2
 unfolding association run signOf widthOf
 returns-2 c =
-    let head = c .before .before .before .before .before .before .before .head in
+    λ way. let head = c .before .before .before .before .before .before .before .head in
     let read-run = c .before .before .before .before .before .before .before .before .before .before .before .read-run in
-    then (done (head .given .1) (starts (need-any _ _ 2 1 _) (starts (need-any _ _ 9 152 _) (read-run .ensures .0 names.type rest))))
-    (starts (when-yes _ _ _ _ _ (eq-eqb _ _ (c .before .before .before .before .before .if1 .taken)))
-    (c .before .before .read-run2 .ensures .0 names.leap-time (λ _. end)))
+    then (done (head .given .1) (starts (need-any _ _ _ 2 1 _) (starts (need-any _ _ _ 9 152 _) (read-run .ensures .0 way names.type rest))))
+    (starts (when-yes _ _ _ _ _ _ (eq-eqb _ _ (c .before .before .before .before .before .if1 .taken)))
+    (c .before .before .read-run2 .ensures .0 way names.leap-time (λ _. end)))
 
 slice-aggregate-read-run-3 : tie.Need-slice-aggregate-read-run-3
 slice-aggregate-read-run-3 c = search needs
@@ -71,7 +72,7 @@ read-run-requires-3 c κs =
     let read-run = c .before .before .before .before .before .before .before .before .read-run in (
       placed-on pre
           (done (c .before .before .before .before .head .given .1)
-          (starts (need-any _ _ 2 1 _) (starts (need-any _ _ 9 152 _) (read-run .ensures .0 names.type rest)))),
+          (starts (need-any _ _ _ 2 1 _) (starts (need-any _ _ _ 9 152 _) (read-run .ensures .0 someWay names.type rest)))),
       tt,
     )
 
@@ -81,11 +82,11 @@ same-length-3 c = search needs
 returns-3 : tie.Need-returns-3
 unfolding association run signOf widthOf
 returns-3 c =
-    let head = c .before .before .before .before .before .before .before .head in
+    λ way. let head = c .before .before .before .before .before .before .before .head in
     let read-run = c .before .before .before .before .before .before .before .before .before .before .before .read-run in
-    then (done (head .given .1) (starts (need-any _ _ 2 1 _) (starts (need-any _ _ 9 152 _) (read-run .ensures .0 names.type rest))))
-    (starts (when-no _ _ _ _ _ (ne-eqb _ _ (c .before .before .before .before .before .if1 .left)))
-    (c .before .before .read-run3 .ensures .0 names.no-leap-time (λ _. end)))
+    then (done (head .given .1) (starts (need-any _ _ _ 2 1 _) (starts (need-any _ _ _ 9 152 _) (read-run .ensures .0 way names.type rest))))
+    (starts (when-no _ _ _ _ _ _ (ne-eqb _ _ (c .before .before .before .before .before .if1 .left)))
+    (c .before .before .read-run3 .ensures .0 way names.no-leap-time (λ _. end)))
 
 pub read-association-spec : {M : Type 1} → statement M
 read-association-spec =

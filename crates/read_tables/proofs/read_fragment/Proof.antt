@@ -8,6 +8,7 @@ use borrow.Author.Tests.{eq-eqb, ne-eqb}
 use Rattle.format.specs.Syntax.{Syntax, when}
 use Rattle.format.specs.Tables.{u, fragment, centre, delivery}
 use Rattle.runs.specs.Lines.{run, signOf, widthOf}
+use Rattle.read_runs.specs.Came.{someWay}
 use Rattle.read_runs.proofs.CameLaws.{done, stops, starts, then, go-on, when-yes, when-no, need-any}
 use Rattle.read_runs.proofs.Runs.{placed-on}
 use Rattle.write_tables.specs.Lists.{lists}
@@ -36,7 +37,7 @@ same-length c = search needs
 returns : tie.Need-returns
 unfolding fragment run signOf widthOf
 returns c =
-    stops (c .enum-told .given .1) (c .before .before .before .before .read-run .ensures .0 names.cell (λ v. u "last_occurrence" 1 (middle v)))
+    λ way. stops (c .enum-told .given .1) (c .before .before .before .before .read-run .ensures .0 way names.cell (λ v. u "last_occurrence" 1 (middle v)))
 
 slice-aggregate-read-run-2 : tie.Need-slice-aggregate-read-run-2
 slice-aggregate-read-run-2 c = search needs
@@ -46,7 +47,7 @@ unfolding run signOf widthOf
 read-run-requires-2 c κs =
     let pre = c .before .before .before .before .before .before .before .before .before .before .before .before .pre in
     let read-run = c .before .before .before .before .before .before .before .read-run in
-    (placed-on pre (done (c .before .before .before .cell .given .1) (read-run .ensures .0 names.cell (λ v. u "last_occurrence" 1 (middle v)))), tt)
+    (placed-on pre (done (c .before .before .before .cell .given .1) (read-run .ensures .0 someWay names.cell (λ v. u "last_occurrence" 1 (middle v)))), tt)
 
 enum-known-flag : tie.Need-enum-known-flag
 enum-known-flag c = search needs
@@ -60,11 +61,11 @@ same-length-2 c = search needs
 returns-2 : tie.Need-returns-2
 unfolding fragment run signOf widthOf
 returns-2 c =
-    let cell = c .before .before .before .before .before .before .before .before .cell in
+    λ way. let cell = c .before .before .before .before .before .before .before .before .cell in
     let read-run = c .before .before .before .before .before .before .before .before .before .before .before .before .read-run in
-    then (done (cell .given .1) (read-run .ensures .0 names.cell (λ v. u "last_occurrence" 1 (middle v))))
+    then (done (cell .given .1) (read-run .ensures .0 way names.cell (λ v. u "last_occurrence" 1 (middle v))))
     (stops (c .enum-told2 .given .1)
-    (c .before .before .before .before .read-run2 .ensures .0 names.last (λ _. middle (cell .given .0 .1 .1 .0))))
+    (c .before .before .before .before .read-run2 .ensures .0 way names.last (λ _. middle (cell .given .0 .1 .1 .0))))
 
 slice-aggregate-read-run-3 : tie.Need-slice-aggregate-read-run-3
 slice-aggregate-read-run-3 c = search needs
@@ -77,9 +78,9 @@ read-run-requires-3 c κs =
     let read-run = c .before .before .before .before .before .before .before .before .before .before .before .before .before .before .before .before .read-run in
     let read-run2 = c .before .before .before .before .before .before .before .before .read-run2 in (
       placed-on pre
-          (go-on (done (cell .given .1) (read-run .ensures .0 names.cell (λ v. u "last_occurrence" 1 (middle v))))
+          (go-on (done (cell .given .1) (read-run .ensures .0 someWay names.cell (λ v. u "last_occurrence" 1 (middle v))))
           (done (c .before .before .before .before .flag .given .1)
-          (read-run2 .ensures .0 names.last (λ _. middle (cell .given .0 .1 .1 .0))))),
+          (read-run2 .ensures .0 someWay names.last (λ _. middle (cell .given .0 .1 .1 .0))))),
       tt,
     )
 
@@ -95,17 +96,17 @@ same-length-3 c = search needs
 returns-3 : tie.Need-returns-3
 unfolding fragment run signOf widthOf
 returns-3 c =
-    let cell = c .before .before .before .before .before .before .before .before .before .before .before .before .before .before .before .before .before .cell in
+    λ way. let cell = c .before .before .before .before .before .before .before .before .before .before .before .before .before .before .before .before .before .cell in
     let flag = c .before .before .before .before .before .before .before .before .before .flag in
     let if1 = c .before .before .before .before .before .before .before .if1 in
     let read-run = c .before .before .before .before .before .before .before .before .before .before .before .before .before .before .before .before .before .before .before .before .before .read-run in
     let read-run2 = c .before .before .before .before .before .before .before .before .before .before .before .before .before .read-run2 in
     then
-    (go-on (done (cell .given .1) (read-run .ensures .0 names.cell (λ v. u "last_occurrence" 1 (middle v))))
-    (done (flag .given .1) (read-run2 .ensures .0 names.last (λ _. middle (cell .given .0 .1 .1 .0)))))
+    (go-on (done (cell .given .1) (read-run .ensures .0 way names.cell (λ v. u "last_occurrence" 1 (middle v))))
+    (done (flag .given .1) (read-run2 .ensures .0 way names.last (λ _. middle (cell .given .0 .1 .1 .0)))))
     (stops (c .enum-told3 .given .1)
-    ((starts (when-yes _ _ _ _ _ (eq-eqb _ _ (if1 .taken))))
-    (starts (need-any _ _ 5 76 _) (c .before .before .before .before .read-run3 .ensures .0 names.centre lists))))
+    ((starts (when-yes _ _ _ _ _ _ (eq-eqb _ _ (if1 .taken))))
+    (starts (need-any _ _ _ 5 76 _) (c .before .before .before .before .read-run3 .ensures .0 way names.centre lists))))
 
 read-lists-requires : tie.Need-read-lists-requires
 unfolding run signOf widthOf
@@ -119,11 +120,11 @@ read-lists-requires c κs =
     let read-run3 = c .before .before .before .before .before .before .read-run3 in
     placed-on pre
     (go-on
-    (go-on (done (cell .given .1) (read-run .ensures .0 names.cell (λ v. u "last_occurrence" 1 (middle v))))
-    (done (flag .given .1) (read-run2 .ensures .0 names.last (λ _. middle (cell .given .0 .1 .1 .0)))))
+    (go-on (done (cell .given .1) (read-run .ensures .0 someWay names.cell (λ v. u "last_occurrence" 1 (middle v))))
+    (done (flag .given .1) (read-run2 .ensures .0 someWay names.last (λ _. middle (cell .given .0 .1 .1 .0)))))
     (done (c .before .before .centre .given .1)
-    ((starts (when-yes _ _ _ _ _ (eq-eqb _ _ (if1 .taken))))
-    (starts (need-any _ _ 5 76 _) (read-run3 .ensures .0 names.centre lists)))))
+    ((starts (when-yes _ _ _ _ _ _ (eq-eqb _ _ (if1 .taken))))
+    (starts (need-any _ _ _ 5 76 _) (read-run3 .ensures .0 someWay names.centre lists)))))
 
 same-length-4 : tie.Need-same-length-4
 unfolding run signOf widthOf
@@ -137,17 +138,17 @@ same-length-4 c =
     omega (
       arith,
       (go-on
-          (go-on (done (cell .given .1) (read-run .ensures .0 names.cell (λ v. u "last_occurrence" 1 (middle v))))
-          (done (flag .given .1) (read-run2 .ensures .0 names.last (λ _. middle (cell .given .0 .1 .1 .0)))))
+          (go-on (done (cell .given .1) (read-run .ensures .0 someWay names.cell (λ v. u "last_occurrence" 1 (middle v))))
+          (done (flag .given .1) (read-run2 .ensures .0 someWay names.last (λ _. middle (cell .given .0 .1 .1 .0)))))
           (done (c .before .before .before .before .before .centre .given .1)
-          ((starts (when-yes _ _ _ _ _ (eq-eqb _ _ (if1 .taken))))
-          (starts (need-any _ _ 5 76 _) (read-run3 .ensures .0 names.centre lists))))) .long,
+          ((starts (when-yes _ _ _ _ _ _ (eq-eqb _ _ (if1 .taken))))
+          (starts (need-any _ _ _ 5 76 _) (read-run3 .ensures .0 someWay names.centre lists))))) .long,
     )
 
 returns-4 : tie.Need-returns-4
 unfolding fragment run signOf widthOf
 returns-4 c =
-    let cell = c .before .before .before .before .before .before .before .before .before .before .before .before .before .before .before .before .before .before .before .before .before .before .cell in
+    λ way. let cell = c .before .before .before .before .before .before .before .before .before .before .before .before .before .before .before .before .before .before .before .before .before .before .cell in
     let flag = c .before .before .before .before .before .before .before .before .before .before .before .before .before .before .flag in
     let if1 = c .before .before .before .before .before .before .before .before .before .before .before .before .if1 in
     let read-run = c .before .before .before .before .before .before .before .before .before .before .before .before .before .before .before .before .before .before .before .before .before .before .before .before .before .before .read-run in
@@ -155,12 +156,12 @@ returns-4 c =
     let read-run3 = c .before .before .before .before .before .before .before .before .before .read-run3 in
     then
     (go-on
-    (go-on (done (cell .given .1) (read-run .ensures .0 names.cell (λ v. u "last_occurrence" 1 (middle v))))
-    (done (flag .given .1) (read-run2 .ensures .0 names.last (λ _. middle (cell .given .0 .1 .1 .0)))))
+    (go-on (done (cell .given .1) (read-run .ensures .0 way names.cell (λ v. u "last_occurrence" 1 (middle v))))
+    (done (flag .given .1) (read-run2 .ensures .0 way names.last (λ _. middle (cell .given .0 .1 .1 .0)))))
     (done (c .before .before .before .before .before .centre .given .1)
-    ((starts (when-yes _ _ _ _ _ (eq-eqb _ _ (if1 .taken))))
-    (starts (need-any _ _ 5 76 _) (read-run3 .ensures .0 names.centre lists)))))
-    (c .before .before .read-lists .ensures)
+    ((starts (when-yes _ _ _ _ _ _ (eq-eqb _ _ (if1 .taken))))
+    (starts (need-any _ _ _ 5 76 _) (read-run3 .ensures .0 way names.centre lists)))))
+    (c .before .before .read-lists .ensures way)
 
 slice-aggregate-read-run-4 : tie.Need-slice-aggregate-read-run-4
 slice-aggregate-read-run-4 c = search needs
@@ -173,9 +174,9 @@ read-run-requires-4 c κs =
     let read-run = c .before .before .before .before .before .before .before .before .before .before .before .before .before .before .before .before .read-run in
     let read-run2 = c .before .before .before .before .before .before .before .before .read-run2 in (
       placed-on pre
-          (go-on (done (cell .given .1) (read-run .ensures .0 names.cell (λ v. u "last_occurrence" 1 (middle v))))
+          (go-on (done (cell .given .1) (read-run .ensures .0 someWay names.cell (λ v. u "last_occurrence" 1 (middle v))))
           (done (c .before .before .before .before .flag .given .1)
-          (read-run2 .ensures .0 names.last (λ _. middle (cell .given .0 .1 .1 .0))))),
+          (read-run2 .ensures .0 someWay names.last (λ _. middle (cell .given .0 .1 .1 .0))))),
       tt,
     )
 
@@ -191,17 +192,17 @@ same-length-5 c = search needs
 returns-5 : tie.Need-returns-5
 unfolding fragment run signOf widthOf
 returns-5 c =
-    let cell = c .before .before .before .before .before .before .before .before .before .before .before .before .before .before .before .before .before .cell in
+    λ way. let cell = c .before .before .before .before .before .before .before .before .before .before .before .before .before .before .before .before .before .cell in
     let flag = c .before .before .before .before .before .before .before .before .before .flag in
     let if1 = c .before .before .before .before .before .before .before .if1 in
     let read-run = c .before .before .before .before .before .before .before .before .before .before .before .before .before .before .before .before .before .before .before .before .before .read-run in
     let read-run2 = c .before .before .before .before .before .before .before .before .before .before .before .before .before .read-run2 in
     then
-    (go-on (done (cell .given .1) (read-run .ensures .0 names.cell (λ v. u "last_occurrence" 1 (middle v))))
-    (done (flag .given .1) (read-run2 .ensures .0 names.last (λ _. middle (cell .given .0 .1 .1 .0)))))
+    (go-on (done (cell .given .1) (read-run .ensures .0 way names.cell (λ v. u "last_occurrence" 1 (middle v))))
+    (done (flag .given .1) (read-run2 .ensures .0 way names.last (λ _. middle (cell .given .0 .1 .1 .0)))))
     (stops (c .enum-told4 .given .1)
-    ((starts (when-no _ _ _ _ _ (ne-eqb _ _ (if1 .left))))
-    (c .before .before .before .before .read-run4 .ensures .0 names.no-centre lists)))
+    ((starts (when-no _ _ _ _ _ _ (ne-eqb _ _ (if1 .left))))
+    (c .before .before .before .before .read-run4 .ensures .0 way names.no-centre lists)))
 
 read-lists-requires-2 : tie.Need-read-lists-requires-2
 unfolding run signOf widthOf
@@ -215,10 +216,10 @@ read-lists-requires-2 c κs =
     let read-run4 = c .before .before .before .before .before .before .read-run4 in
     placed-on pre
     (go-on
-    (go-on (done (cell .given .1) (read-run .ensures .0 names.cell (λ v. u "last_occurrence" 1 (middle v))))
-    (done (flag .given .1) (read-run2 .ensures .0 names.last (λ _. middle (cell .given .0 .1 .1 .0)))))
+    (go-on (done (cell .given .1) (read-run .ensures .0 someWay names.cell (λ v. u "last_occurrence" 1 (middle v))))
+    (done (flag .given .1) (read-run2 .ensures .0 someWay names.last (λ _. middle (cell .given .0 .1 .1 .0)))))
     (done (c .before .before .none .given .1)
-    ((starts (when-no _ _ _ _ _ (ne-eqb _ _ (if1 .left)))) (read-run4 .ensures .0 names.no-centre lists))))
+    ((starts (when-no _ _ _ _ _ _ (ne-eqb _ _ (if1 .left)))) (read-run4 .ensures .0 someWay names.no-centre lists))))
 
 same-length-6 : tie.Need-same-length-6
 unfolding run signOf widthOf
@@ -232,16 +233,16 @@ same-length-6 c =
     omega (
       arith,
       (go-on
-          (go-on (done (cell .given .1) (read-run .ensures .0 names.cell (λ v. u "last_occurrence" 1 (middle v))))
-          (done (flag .given .1) (read-run2 .ensures .0 names.last (λ _. middle (cell .given .0 .1 .1 .0)))))
+          (go-on (done (cell .given .1) (read-run .ensures .0 someWay names.cell (λ v. u "last_occurrence" 1 (middle v))))
+          (done (flag .given .1) (read-run2 .ensures .0 someWay names.last (λ _. middle (cell .given .0 .1 .1 .0)))))
           (done (c .before .before .before .before .before .none .given .1)
-          ((starts (when-no _ _ _ _ _ (ne-eqb _ _ (if1 .left)))) (read-run4 .ensures .0 names.no-centre lists)))) .long,
+          ((starts (when-no _ _ _ _ _ _ (ne-eqb _ _ (if1 .left)))) (read-run4 .ensures .0 someWay names.no-centre lists)))) .long,
     )
 
 returns-6 : tie.Need-returns-6
 unfolding fragment run signOf widthOf
 returns-6 c =
-    let cell = c .before .before .before .before .before .before .before .before .before .before .before .before .before .before .before .before .before .before .before .before .before .before .cell in
+    λ way. let cell = c .before .before .before .before .before .before .before .before .before .before .before .before .before .before .before .before .before .before .before .before .before .before .cell in
     let flag = c .before .before .before .before .before .before .before .before .before .before .before .before .before .before .flag in
     let if1 = c .before .before .before .before .before .before .before .before .before .before .before .before .if1 in
     let read-run = c .before .before .before .before .before .before .before .before .before .before .before .before .before .before .before .before .before .before .before .before .before .before .before .before .before .before .read-run in
@@ -249,11 +250,11 @@ returns-6 c =
     let read-run4 = c .before .before .before .before .before .before .before .before .before .read-run4 in
     then
     (go-on
-    (go-on (done (cell .given .1) (read-run .ensures .0 names.cell (λ v. u "last_occurrence" 1 (middle v))))
-    (done (flag .given .1) (read-run2 .ensures .0 names.last (λ _. middle (cell .given .0 .1 .1 .0)))))
+    (go-on (done (cell .given .1) (read-run .ensures .0 way names.cell (λ v. u "last_occurrence" 1 (middle v))))
+    (done (flag .given .1) (read-run2 .ensures .0 way names.last (λ _. middle (cell .given .0 .1 .1 .0)))))
     (done (c .before .before .before .before .before .none .given .1)
-    ((starts (when-no _ _ _ _ _ (ne-eqb _ _ (if1 .left)))) (read-run4 .ensures .0 names.no-centre lists))))
-    (c .before .before .read-lists2 .ensures)
+    ((starts (when-no _ _ _ _ _ _ (ne-eqb _ _ (if1 .left)))) (read-run4 .ensures .0 way names.no-centre lists))))
+    (c .before .before .read-lists2 .ensures way)
 
 pub read-fragment-spec : {M : Type 1} → statement M
 read-fragment-spec =

@@ -6,6 +6,7 @@ use borrow.Author.Needs.{needs}
 use Rattle.format.specs.Syntax.{Syntax, need, end}
 use Rattle.format.specs.Tables.{times, system, new, obsolescent}
 use Rattle.runs.specs.Lines.{run, signOf, widthOf}
+use Rattle.read_runs.specs.Came.{someWay}
 use Rattle.read_runs.proofs.CameLaws.{done, stops, starts, then, go-on, need-any}
 use Rattle.read_runs.proofs.Runs.{placed-on}
 use Rattle.runs.proofs.Names as names
@@ -36,9 +37,9 @@ same-length c = search needs
 returns : tie.Need-returns
 unfolding run signOf widthOf
 returns c =
-    let a = c .before .before .before .before .before .before .before .before .before .args in
+    λ way. let a = c .before .before .before .before .before .before .before .before .before .args in
     stops (c .enum-told .given .1)
-    (starts (need-any _ _ 6 (a .count * 32) _) (c .before .before .before .before .read-counted .ensures names.delivery new))
+    (starts (need-any _ _ _ 6 (a .count * 32) _) (c .before .before .before .before .read-counted .ensures way names.delivery new))
 
 slice-aggregate-read-run : tie.Need-slice-aggregate-read-run
 slice-aggregate-read-run c = search needs
@@ -50,7 +51,7 @@ read-run-requires c κs =
     let pre = c .before .before .before .before .before .before .before .before .before .before .before .before .pre in
     let read-counted = c .before .before .before .before .before .before .before .read-counted in (
       placed-on pre
-          (done (c .before .before .before .ids .given .1) (starts (need-any _ _ 6 (a .count * 32) _) (read-counted .ensures names.delivery new))),
+          (done (c .before .before .before .ids .given .1) (starts (need-any _ _ _ 6 (a .count * 32) _) (read-counted .ensures someWay names.delivery new))),
       tt,
     )
 
@@ -66,11 +67,11 @@ same-length-2 c = search needs
 returns-2 : tie.Need-returns-2
 unfolding run signOf widthOf
 returns-2 c =
-    let a = c .before .before .before .before .before .before .before .before .before .before .before .before .before .before .before .before .before .args in
+    λ way. let a = c .before .before .before .before .before .before .before .before .before .before .before .before .before .before .before .before .before .args in
     let ids = c .before .before .before .before .before .before .before .before .ids in
     let read-counted = c .before .before .before .before .before .before .before .before .before .before .before .before .read-counted in
-    then (done (ids .given .1) (starts (need-any _ _ 6 (a .count * 32) _) (read-counted .ensures names.delivery new)))
-    (stops (c .enum-told2 .given .1) (c .before .before .before .before .read-run .ensures .0 names.new-count news))
+    then (done (ids .given .1) (starts (need-any _ _ _ 6 (a .count * 32) _) (read-counted .ensures way names.delivery new)))
+    (stops (c .enum-told2 .given .1) (c .before .before .before .before .read-run .ensures .0 way names.new-count news))
 
 slice-aggregate-read-counted-2 : tie.Need-slice-aggregate-read-counted-2
 slice-aggregate-read-counted-2 c = search needs
@@ -84,8 +85,8 @@ read-counted-requires-2 c κs =
     let read-counted = c .before .before .before .before .before .before .before .before .before .before .before .before .before .before .before .read-counted in
     let read-run = c .before .before .before .before .before .before .before .read-run in (
       placed-on pre
-          (go-on (done (ids .given .1) (starts (need-any _ _ 6 (a .count * 32) _) (read-counted .ensures names.delivery new)))
-          (done (c .before .before .before .new .given .1) (read-run .ensures .0 names.new-count news))),
+          (go-on (done (ids .given .1) (starts (need-any _ _ _ 6 (a .count * 32) _) (read-counted .ensures someWay names.delivery new)))
+          (done (c .before .before .before .new .given .1) (read-run .ensures .0 someWay names.new-count news))),
       tt,
     )
 
@@ -101,17 +102,17 @@ same-length-3 c = search needs
 returns-3 : tie.Need-returns-3
 unfolding run signOf widthOf
 returns-3 c =
-    let a = c .before .before .before .before .before .before .before .before .before .before .before .before .before .before .before .before .before .before .before .before .before .before .before .before .before .args in
+    λ way. let a = c .before .before .before .before .before .before .before .before .before .before .before .before .before .before .before .before .before .before .before .before .before .before .before .before .before .args in
     let ids = c .before .before .before .before .before .before .before .before .before .before .before .before .before .before .before .before .ids in
     let new′ = c .before .before .before .before .before .before .before .before .new in
     let read-counted = c .before .before .before .before .before .before .before .before .before .before .before .before .before .before .before .before .before .before .before .before .read-counted in
     let read-run = c .before .before .before .before .before .before .before .before .before .before .before .before .read-run in
     then
-    (go-on (done (ids .given .1) (starts (need-any _ _ 6 (a .count * 32) _) (read-counted .ensures names.delivery new)))
-    (done (new′ .given .1) (read-run .ensures .0 names.new-count news)))
+    (go-on (done (ids .given .1) (starts (need-any _ _ _ 6 (a .count * 32) _) (read-counted .ensures way names.delivery new)))
+    (done (new′ .given .1) (read-run .ensures .0 way names.new-count news)))
     (stops (c .enum-told3 .given .1)
-    (starts (need-any _ _ 7 (new′ .given .0 .1 .1 .0 * 80) _)
-    (c .before .before .before .before .read-counted2 .ensures names.new-system obsolescent)))
+    (starts (need-any _ _ _ 7 (new′ .given .0 .1 .1 .0 * 80) _)
+    (c .before .before .before .before .read-counted2 .ensures way names.new-system obsolescent)))
 
 slice-aggregate-read-run-2 : tie.Need-slice-aggregate-read-run-2
 slice-aggregate-read-run-2 c = search needs
@@ -128,10 +129,10 @@ read-run-requires-2 c κs =
     let read-run = c .before .before .before .before .before .before .before .before .before .before .before .before .before .before .before .read-run in (
       placed-on pre
           (go-on
-          (go-on (done (ids .given .1) (starts (need-any _ _ 6 (a .count * 32) _) (read-counted .ensures names.delivery new)))
-          (done (new′ .given .1) (read-run .ensures .0 names.new-count news)))
+          (go-on (done (ids .given .1) (starts (need-any _ _ _ 6 (a .count * 32) _) (read-counted .ensures someWay names.delivery new)))
+          (done (new′ .given .1) (read-run .ensures .0 someWay names.new-count news)))
           (done (c .before .before .before .systems .given .1)
-          (starts (need-any _ _ 7 (new′ .given .0 .1 .1 .0 * 80) _) (read-counted2 .ensures names.new-system obsolescent)))),
+          (starts (need-any _ _ _ 7 (new′ .given .0 .1 .1 .0 * 80) _) (read-counted2 .ensures someWay names.new-system obsolescent)))),
       tt,
     )
 
@@ -154,16 +155,16 @@ same-length-4 c =
     omega (
       arith,
       (go-on
-          (go-on (done (ids .given .1) (starts (need-any _ _ 6 (a .count * 32) _) (read-counted .ensures names.delivery new)))
-          (done (new′ .given .1) (read-run .ensures .0 names.new-count news)))
+          (go-on (done (ids .given .1) (starts (need-any _ _ _ 6 (a .count * 32) _) (read-counted .ensures someWay names.delivery new)))
+          (done (new′ .given .1) (read-run .ensures .0 someWay names.new-count news)))
           (done (systems .given .1)
-          (starts (need-any _ _ 7 (new′ .given .0 .1 .1 .0 * 80) _) (read-counted2 .ensures names.new-system obsolescent)))) .long,
+          (starts (need-any _ _ _ 7 (new′ .given .0 .1 .1 .0 * 80) _) (read-counted2 .ensures someWay names.new-system obsolescent)))) .long,
     )
 
 returns-4 : tie.Need-returns-4
 unfolding run signOf widthOf
 returns-4 c =
-    let a = c .before .before .before .before .before .before .before .before .before .before .before .before .before .before .before .before .before .before .before .before .before .before .before .before .before .before .before .before .before .before .before .before .before .args in
+    λ way. let a = c .before .before .before .before .before .before .before .before .before .before .before .before .before .before .before .before .before .before .before .before .before .before .before .before .before .before .before .before .before .before .before .before .before .args in
     let ids = c .before .before .before .before .before .before .before .before .before .before .before .before .before .before .before .before .before .before .before .before .before .before .before .before .ids in
     let new′ = c .before .before .before .before .before .before .before .before .before .before .before .before .before .before .before .before .new in
     let read-counted = c .before .before .before .before .before .before .before .before .before .before .before .before .before .before .before .before .before .before .before .before .before .before .before .before .before .before .before .before .read-counted in
@@ -172,11 +173,11 @@ returns-4 c =
     let systems = c .before .before .before .before .before .before .before .before .systems in
     then
     (go-on
-    (go-on (done (ids .given .1) (starts (need-any _ _ 6 (a .count * 32) _) (read-counted .ensures names.delivery new)))
-    (done (new′ .given .1) (read-run .ensures .0 names.new-count news)))
+    (go-on (done (ids .given .1) (starts (need-any _ _ _ 6 (a .count * 32) _) (read-counted .ensures way names.delivery new)))
+    (done (new′ .given .1) (read-run .ensures .0 way names.new-count news)))
     (done (systems .given .1)
-    (starts (need-any _ _ 7 (new′ .given .0 .1 .1 .0 * 80) _) (read-counted2 .ensures names.new-system obsolescent))))
-    (stops (c .enum-told4 .given .1) (c .before .before .before .before .read-run2 .ensures .0 names.old-count olds))
+    (starts (need-any _ _ _ 7 (new′ .given .0 .1 .1 .0 * 80) _) (read-counted2 .ensures way names.new-system obsolescent))))
+    (stops (c .enum-told4 .given .1) (c .before .before .before .before .read-run2 .ensures .0 way names.old-count olds))
 
 slice-aggregate-read-counted-3 : tie.Need-slice-aggregate-read-counted-3
 slice-aggregate-read-counted-3 c = search needs
@@ -196,11 +197,11 @@ read-counted-requires-3 c κs =
       placed-on pre
           (go-on
           (go-on
-          (go-on (done (ids .given .1) (starts (need-any _ _ 6 (a .count * 32) _) (read-counted .ensures names.delivery new)))
-          (done (new′ .given .1) (read-run .ensures .0 names.new-count news)))
+          (go-on (done (ids .given .1) (starts (need-any _ _ _ 6 (a .count * 32) _) (read-counted .ensures someWay names.delivery new)))
+          (done (new′ .given .1) (read-run .ensures .0 someWay names.new-count news)))
           (done (systems .given .1)
-          (starts (need-any _ _ 7 (new′ .given .0 .1 .1 .0 * 80) _) (read-counted2 .ensures names.new-system obsolescent))))
-          (done (c .before .before .before .old .given .1) (read-run2 .ensures .0 names.old-count olds))),
+          (starts (need-any _ _ _ 7 (new′ .given .0 .1 .1 .0 * 80) _) (read-counted2 .ensures someWay names.new-system obsolescent))))
+          (done (c .before .before .before .old .given .1) (read-run2 .ensures .0 someWay names.old-count olds))),
       tt,
     )
 
@@ -221,18 +222,18 @@ same-length-5 c =
       (go-on
           (go-on
           (go-on
-          (done (ids .given .1) (starts (need-any _ _ 6 (a .count * 32) _) (read-counted .ensures names.delivery new)))
-          (done (new′ .given .1) (read-run .ensures .0 names.new-count news)))
+          (done (ids .given .1) (starts (need-any _ _ _ 6 (a .count * 32) _) (read-counted .ensures someWay names.delivery new)))
+          (done (new′ .given .1) (read-run .ensures .0 someWay names.new-count news)))
           (done (systems .given .1)
-          (starts (need-any _ _ 7 (new′ .given .0 .1 .1 .0 * 80) _)
-          (read-counted2 .ensures names.new-system obsolescent))))
-          (done (old .given .1) (read-run2 .ensures .0 names.old-count olds))) .long,
+          (starts (need-any _ _ _ 7 (new′ .given .0 .1 .1 .0 * 80) _)
+          (read-counted2 .ensures someWay names.new-system obsolescent))))
+          (done (old .given .1) (read-run2 .ensures .0 someWay names.old-count olds))) .long,
     )
 
 returns-5 : tie.Need-returns-5
 unfolding run signOf widthOf
 returns-5 c =
-    let a = c .before .before .before .before .before .before .before .before .before .before .before .before .before .before .before .before .before .before .before .before .before .before .before .before .before .before .before .before .before .before .before .before .before .before .before .before .before .before .before .args in
+    λ way. let a = c .before .before .before .before .before .before .before .before .before .before .before .before .before .before .before .before .before .before .before .before .before .before .before .before .before .before .before .before .before .before .before .before .before .before .before .before .before .before .before .args in
     let ids = c .before .before .before .before .before .before .before .before .before .before .before .before .before .before .before .before .before .before .before .before .before .before .before .before .before .before .before .before .before .before .ids in
     let new′ = c .before .before .before .before .before .before .before .before .before .before .before .before .before .before .before .before .before .before .before .before .before .before .new in
     let old = c .before .before .before .before .before .before .old in
@@ -244,12 +245,12 @@ returns-5 c =
     then
     (go-on
     (go-on
-    (go-on (done (ids .given .1) (starts (need-any _ _ 6 (a .count * 32) _) (read-counted .ensures names.delivery new)))
-    (done (new′ .given .1) (read-run .ensures .0 names.new-count news)))
+    (go-on (done (ids .given .1) (starts (need-any _ _ _ 6 (a .count * 32) _) (read-counted .ensures way names.delivery new)))
+    (done (new′ .given .1) (read-run .ensures .0 way names.new-count news)))
     (done (systems .given .1)
-    (starts (need-any _ _ 7 (new′ .given .0 .1 .1 .0 * 80) _) (read-counted2 .ensures names.new-system obsolescent))))
-    (done (old .given .1) (read-run2 .ensures .0 names.old-count olds)))
-    (starts (need-any _ _ _ _ _) (c .before .before .read-counted3 .ensures names.old-system end))
+    (starts (need-any _ _ _ 7 (new′ .given .0 .1 .1 .0 * 80) _) (read-counted2 .ensures way names.new-system obsolescent))))
+    (done (old .given .1) (read-run2 .ensures .0 way names.old-count olds)))
+    (starts (need-any _ _ _ _ _ _) (c .before .before .read-counted3 .ensures way names.old-system end))
 
 pub read-lists-spec : {M : Type 1} → statement M
 read-lists-spec =

@@ -7,6 +7,7 @@ use borrow.Author.Tests.{eq-eqb, ne-eqb}
 use Rattle.format.specs.Syntax.{Syntax, when, end}
 use Rattle.format.specs.Tables.{position, orbital, elements}
 use Rattle.runs.specs.Lines.{run, signOf, widthOf}
+use Rattle.read_runs.specs.Came.{someWay}
 use Rattle.read_runs.proofs.CameLaws.{done, stops, starts, then, when-yes, when-no, need-any}
 use Rattle.read_runs.proofs.Runs.{placed-on}
 use Rattle.runs.proofs.Names as names
@@ -33,7 +34,7 @@ same-length c = search needs
 
 returns : tie.Need-returns
 unfolding position run signOf widthOf
-returns c = stops (c .enum-told .given .1) (c .before .before .before .before .read-run .ensures .0 names.satellite rest)
+returns c = λ way. stops (c .enum-told .given .1) (c .before .before .before .before .read-run .ensures .0 way names.satellite rest)
 
 slice-aggregate-read-run-2 : tie.Need-slice-aggregate-read-run-2
 slice-aggregate-read-run-2 c = search needs
@@ -42,7 +43,7 @@ read-run-requires-2 : tie.Need-read-run-requires-2
 read-run-requires-2 c κs =
     let pre = c .before .before .before .before .before .before .before .before .before .before .before .before .before .pre in
     let read-run = c .before .before .before .before .before .before .before .before .read-run in
-    (placed-on pre (done (c .before .before .before .before .head .given .1) (read-run .ensures .0 names.satellite rest)), tt)
+    (placed-on pre (done (c .before .before .before .before .head .given .1) (read-run .ensures .0 someWay names.satellite rest)), tt)
 
 same-length-2 : tie.Need-same-length-2
 same-length-2 c = search needs
@@ -50,11 +51,11 @@ same-length-2 c = search needs
 returns-2 : tie.Need-returns-2
 unfolding position run signOf widthOf
 returns-2 c =
-    let head = c .before .before .before .before .before .before .before .head in
+    λ way. let head = c .before .before .before .before .before .before .before .head in
     let read-run = c .before .before .before .before .before .before .before .before .before .before .before .read-run in
-    then (done (head .given .1) (read-run .ensures .0 names.satellite rest))
-    (starts (when-yes _ _ _ _ _ (eq-eqb _ _ (c .before .before .before .before .before .if1 .taken)))
-    (starts (need-any _ _ _ _ _) (c .before .before .read-run2 .ensures .0 names.orbital (λ _. end))))
+    then (done (head .given .1) (read-run .ensures .0 way names.satellite rest))
+    (starts (when-yes _ _ _ _ _ _ (eq-eqb _ _ (c .before .before .before .before .before .if1 .taken)))
+    (starts (need-any _ _ _ _ _ _) (c .before .before .read-run2 .ensures .0 way names.orbital (λ _. end))))
 
 slice-aggregate-read-run-3 : tie.Need-slice-aggregate-read-run-3
 slice-aggregate-read-run-3 c = search needs
@@ -63,7 +64,7 @@ read-run-requires-3 : tie.Need-read-run-requires-3
 read-run-requires-3 c κs =
     let pre = c .before .before .before .before .before .before .before .before .before .before .before .before .before .pre in
     let read-run = c .before .before .before .before .before .before .before .before .read-run in
-    (placed-on pre (done (c .before .before .before .before .head .given .1) (read-run .ensures .0 names.satellite rest)), tt)
+    (placed-on pre (done (c .before .before .before .before .head .given .1) (read-run .ensures .0 someWay names.satellite rest)), tt)
 
 same-length-3 : tie.Need-same-length-3
 same-length-3 c = search needs
@@ -71,11 +72,11 @@ same-length-3 c = search needs
 returns-3 : tie.Need-returns-3
 unfolding position run signOf widthOf
 returns-3 c =
-    let head = c .before .before .before .before .before .before .before .head in
+    λ way. let head = c .before .before .before .before .before .before .before .head in
     let read-run = c .before .before .before .before .before .before .before .before .before .before .before .read-run in
-    then (done (head .given .1) (read-run .ensures .0 names.satellite rest))
-    (starts (when-no _ _ _ _ _ (ne-eqb _ _ (c .before .before .before .before .before .if1 .left)))
-    (starts (need-any _ _ _ _ _) (c .before .before .read-run3 .ensures .0 names.elements (λ _. end))))
+    then (done (head .given .1) (read-run .ensures .0 way names.satellite rest))
+    (starts (when-no _ _ _ _ _ _ (ne-eqb _ _ (c .before .before .before .before .before .if1 .left)))
+    (starts (need-any _ _ _ _ _ _) (c .before .before .read-run3 .ensures .0 way names.elements (λ _. end))))
 
 pub read-position-spec : {M : Type 1} → statement M
 read-position-spec =

@@ -33,13 +33,13 @@ plan-refusal-requires c κs = search needs
 returns : tie.Need-returns
 unfolding after planRefusal typedAt planAt
 returns c =
-    given-no _ tables.beamhopping _ _ Refused (λ ts q. r.Entry (planOf (c .before .before .before .before .before .args .s .now) (c .before .before .before .before .before .args .at) ts) q) r.Refused after (λ ts q. refl) (λ f. refl) planRefusal (λ x. refl)
+    given-no _ tables.beamhopping _ _ Refused (λ ts q. r.Entry (planOf (c .before .before .before .before .before .args .at) ts) q) r.Refused after (λ ts q. refl) (λ f. refl) planRefusal (λ x. refl)
     (c .before .before .before .read-plan .ensures) (c .before .enum-told .given .1) (c .plan-refusal .ensures)
 
 returns-2 : tie.Need-returns-2
 unfolding after typedAt planAt
 returns-2 c =
-    given _ tables.beamhopping _ _ Refused (λ ts q. r.Entry (planOf (c .before .before .before .before .before .args .s .now) (c .before .before .before .before .before .args .at) ts) q) r.Refused after (λ ts q. refl) (λ f. refl)
+    given _ tables.beamhopping _ _ Refused (λ ts q. r.Entry (planOf (c .before .before .before .before .before .args .at) ts) q) r.Refused after (λ ts q. refl) (λ f. refl)
     (c .before .before .before .read-plan .ensures) (c .before .r .given .1) refl
 
 pub plan-entry-spec : {M : Type 1} → statement M

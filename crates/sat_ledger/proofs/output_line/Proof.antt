@@ -43,7 +43,7 @@ enum-known-size c = search needs
 array-share-prefix-out : tie.Need-array-share-prefix-out
 array-share-prefix-out c =
     let w = c .before .before .before .before .ledger-write in
-    omega (arith, write-within _ _ _ (sym (w .ensures .0) ∙ c .before .size .given .1), w .kept .1 .1 .0)
+    omega (arith, write-within _ _ _ _ (sym (w .ensures .0) ∙ c .before .size .given .1), w .kept .1 .1 .0)
 
 slice-aggregate-hex-line : tie.Need-slice-aggregate-hex-line
 slice-aggregate-hex-line c = sym (length-take-le _ _ (array-share-prefix-out (c .before)))

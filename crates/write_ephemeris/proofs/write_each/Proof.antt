@@ -3,9 +3,10 @@
 use native.Mathlib.Omega.{arith}
 use borrow.Author.Needs.{needs}
 use Prim.Native.Nat.{_-_, _≤_}
-use Rattle.format.specs.Syntax.{end}
+use Rattle.format.specs.Syntax.{edition-1, end}
 use Rattle.format.specs.Tables.{times, ephemeris}
 use Rattle.write_ephemeris.specs.Rest.{ephemerisTo}
+use Rattle.write_runs.specs.Went.{outside}
 use Rattle.write_runs.proofs.Lent.{lent}
 use Rattle.write_runs.proofs.Runs.{Along, begin, next, stop, ended}
 use Rattle.write_runs.proofs.WentLaws.{done, stops}
@@ -50,16 +51,16 @@ same-length c = omega (arith, c .before .before .before .before .before .before 
 
 returns : tie.Need-returns Inv-loop μ-loop
 returns c =
-    let a = c .before .before .before .before .before .before .before .before .before .before .before .args in
+    λ e. let a = c .before .before .before .before .before .before .before .before .before .before .before .args in
     let l = c .before .before .before .before .before .before .before .before .loop in
     let test′ = c .before .before .before .before .before .before .before .loop-test in
     λ s. stop (ephemerisTo (a .accel)) (l .inv .0) (λ e k. stops (c .enum-told .given .1) (c .before .before .before .before .write-entry .ensures e k))
-    (λ k. left-next (a .accel) (a .count) 0 (l .i) k (test′ .taken)) (c .enum-told .given .1) 0 (λ _. s) (λ _. s)
+    (λ k. left-next (a .accel) (a .count) 0 (l .i) k (test′ .taken)) (c .enum-told .given .1) e (λ _. s) (λ _. s)
 
 add-there : tie.Need-add-there Inv-loop μ-loop
 add-there c =
     let p = c .before .before .before .before .before .before .before .before .before .loop .inv .0 .placed in
-    let w = done (c .before .entry .given .1) (c .before .before .before .before .before .write-entry .ensures 0 (λ _. end)) in
+    let w = done (c .before .entry .given .1) (c .before .before .before .before .before .write-entry .ensures (outside edition-1) (λ _. end)) in
     omega (arith, w .slack, w .within, p .behind, p .within, p .short)
 
 add-i : tie.Need-add-i Inv-loop μ-loop
@@ -84,8 +85,8 @@ same-length-2 c = c .before .loop .inv .0 .long
 
 returns-2 : tie.Need-returns-2 Inv-loop μ-loop
 returns-2 c =
-    let a = c .before .before .before .before .args in
-    λ s. record { to = ended (c .before .loop .inv .0) 0 (λ _. s) _ (left-end (a .accel) (a .count) 0 (c .before .loop .i) (λ _. s) (omega arith)) }
+    λ e. let a = c .before .before .before .before .args in
+    λ s. record { to = ended (c .before .loop .inv .0) e (λ _. s) _ (left-end (a .accel) (a .count) 0 (c .before .loop .i) (λ _. s) (omega arith)) }
 
 pub write-each-spec : {M : Type 1} → statement M
 write-each-spec =

@@ -2,9 +2,10 @@
 -- Assumes nothing.
 use native.Mathlib.Omega.{arith}
 use borrow.Author.Needs.{needs}
-use Rattle.format.specs.Syntax.{Syntax}
+use Rattle.format.specs.Syntax.{edition-1, Syntax}
 use Rattle.runs.specs.Lines.{run, signOf, widthOf}
 use Rattle.runs.proofs.Names as names
+use Rattle.write_runs.specs.Went.{outside}
 use Rattle.write_runs.proofs.WentLaws.{done, stops, then, go-on}
 use Rattle.write_runs.proofs.Runs.{placed-on}
 use Prim.Native.Nat.{ℕ}
@@ -37,8 +38,8 @@ same-length c = search needs
 returns : tie.Need-returns
 unfolding run signOf widthOf
 returns c =
-    let a = c .before .before .before .before .before .before .before .before .before .args in
-    stops (c .enum-told .given .1) (c .before .before .before .before .write-run .ensures .0 0 names.stop ((third (a .meta) (a .start))))
+    λ e. let a = c .before .before .before .before .before .before .before .before .before .args in
+    stops (c .enum-told .given .1) (c .before .before .before .before .write-run .ensures .0 e names.stop ((third (a .meta) (a .start))))
 
 slice-aggregate-write-run-2 : tie.Need-slice-aggregate-write-run-2
 slice-aggregate-write-run-2 c = search needs
@@ -49,7 +50,7 @@ write-run-requires-2 c κs =
     let a = c .before .before .before .before .before .before .before .before .before .before .before .before .args in
     let pre = c .before .before .before .before .before .before .before .before .before .before .before .before .pre in
     let write-run = c .before .before .before .before .before .before .before .write-run in
-    (placed-on pre ((done (c .before .before .before .third .given .1) (write-run .ensures .0 0 names.stop ((third (a .meta) (a .start)))))), tt)
+    (placed-on pre ((done (c .before .before .before .third .given .1) (write-run .ensures .0 (outside edition-1) names.stop ((third (a .meta) (a .start)))))), tt)
 
 enum-known-fourth : tie.Need-enum-known-fourth
 enum-known-fourth c = search needs
@@ -63,12 +64,12 @@ same-length-2 c = search needs
 returns-2 : tie.Need-returns-2
 unfolding run signOf widthOf
 returns-2 c =
-    let a = c .before .before .before .before .before .before .before .before .before .before .before .before .before .before .before .before .before .args in
+    λ e. let a = c .before .before .before .before .before .before .before .before .before .before .before .before .before .before .before .before .before .args in
     let third′ = c .before .before .before .before .before .before .before .before .third in
     let write-run = c .before .before .before .before .before .before .before .before .before .before .before .before .write-run in
-    then ((done (third′ .given .1) (write-run .ensures .0 0 names.stop ((third (a .meta) (a .start))))))
+    then ((done (third′ .given .1) (write-run .ensures .0 e names.stop ((third (a .meta) (a .start))))))
     (stops (c .enum-told2 .given .1)
-    (c .before .before .before .before .write-run2 .ensures .0 0 names.accel ((fourth (a .meta) (a .start) (third′ .given .0 .1 .1 .0)))))
+    (c .before .before .before .before .write-run2 .ensures .0 e names.accel ((fourth (a .meta) (a .start) (third′ .given .0 .1 .1 .0)))))
 
 slice-aggregate-write-run-3 : tie.Need-slice-aggregate-write-run-3
 slice-aggregate-write-run-3 c = search needs
@@ -82,9 +83,9 @@ write-run-requires-3 c κs =
     let write-run = c .before .before .before .before .before .before .before .before .before .before .before .before .before .before .before .write-run in
     let write-run2 = c .before .before .before .before .before .before .before .write-run2 in (
       placed-on pre
-          ((go-on ((done (third′ .given .1) (write-run .ensures .0 0 names.stop ((third (a .meta) (a .start))))))
+          ((go-on ((done (third′ .given .1) (write-run .ensures .0 (outside edition-1) names.stop ((third (a .meta) (a .start))))))
           (done (c .before .before .before .fourth .given .1)
-          (write-run2 .ensures .0 0 names.accel ((fourth (a .meta) (a .start) (third′ .given .0 .1 .1 .0))))))),
+          (write-run2 .ensures .0 (outside edition-1) names.accel ((fourth (a .meta) (a .start) (third′ .given .0 .1 .1 .0))))))),
       tt,
     )
 
@@ -104,24 +105,24 @@ same-length-3 c =
     let write-run2 = c .before .before .before .before .before .before .before .before .before .before .before .before .write-run2 in
     omega (
       arith,
-      ((go-on ((done (third′ .given .1) (write-run .ensures .0 0 names.stop ((third (a .meta) (a .start))))))
+      ((go-on ((done (third′ .given .1) (write-run .ensures .0 (outside edition-1) names.stop ((third (a .meta) (a .start))))))
           (done (fourth′ .given .1)
-          (write-run2 .ensures .0 0 names.accel ((fourth (a .meta) (a .start) (third′ .given .0 .1 .1 .0))))))) .long,
+          (write-run2 .ensures .0 (outside edition-1) names.accel ((fourth (a .meta) (a .start) (third′ .given .0 .1 .1 .0))))))) .long,
     )
 
 returns-3 : tie.Need-returns-3
 unfolding run signOf widthOf
 returns-3 c =
-    let a = c .before .before .before .before .before .before .before .before .before .before .before .before .before .before .before .before .before .before .before .before .before .before .before .before .before .args in
+    λ e. let a = c .before .before .before .before .before .before .before .before .before .before .before .before .before .before .before .before .before .before .before .before .before .before .before .before .before .args in
     let fourth′ = c .before .before .before .before .before .before .before .before .fourth in
     let third′ = c .before .before .before .before .before .before .before .before .before .before .before .before .before .before .before .before .third in
     let write-run = c .before .before .before .before .before .before .before .before .before .before .before .before .before .before .before .before .before .before .before .before .write-run in
     let write-run2 = c .before .before .before .before .before .before .before .before .before .before .before .before .write-run2 in
     then
-    ((go-on ((done (third′ .given .1) (write-run .ensures .0 0 names.stop ((third (a .meta) (a .start))))))
-    (done (fourth′ .given .1) (write-run2 .ensures .0 0 names.accel ((fourth (a .meta) (a .start) (third′ .given .0 .1 .1 .0)))))))
+    ((go-on ((done (third′ .given .1) (write-run .ensures .0 e names.stop ((third (a .meta) (a .start))))))
+    (done (fourth′ .given .1) (write-run2 .ensures .0 e names.accel ((fourth (a .meta) (a .start) (third′ .given .0 .1 .1 .0)))))))
     (stops (c .enum-told3 .given .1)
-    (c .before .before .before .before .write-run3 .ensures .0 0 names.cov
+    (c .before .before .before .before .write-run3 .ensures .0 e names.cov
     ((flagged (a .meta) (a .start) (third′ .given .0 .1 .1 .0) (fourth′ .given .0 .1 .1 .0)))))
 
 write-flagged-requires : tie.Need-write-flagged-requires
@@ -136,11 +137,11 @@ write-flagged-requires c κs =
     let write-run3 = c .before .before .before .before .before .before .write-run3 in
     placed-on pre
     ((go-on
-    ((go-on ((done (third′ .given .1) (write-run .ensures .0 0 names.stop ((third (a .meta) (a .start))))))
+    ((go-on ((done (third′ .given .1) (write-run .ensures .0 (outside edition-1) names.stop ((third (a .meta) (a .start))))))
     (done (fourth′ .given .1)
-    (write-run2 .ensures .0 0 names.accel ((fourth (a .meta) (a .start) (third′ .given .0 .1 .1 .0)))))))
+    (write-run2 .ensures .0 (outside edition-1) names.accel ((fourth (a .meta) (a .start) (third′ .given .0 .1 .1 .0)))))))
     (done (c .before .before .fifth .given .1)
-    (write-run3 .ensures .0 0 names.cov
+    (write-run3 .ensures .0 (outside edition-1) names.cov
     ((flagged (a .meta) (a .start) (third′ .given .0 .1 .1 .0) (fourth′ .given .0 .1 .1 .0)))))))
 
 same-length-4 : tie.Need-same-length-4
@@ -155,18 +156,18 @@ same-length-4 c =
     omega (
       arith,
       ((go-on
-          ((go-on ((done (third′ .given .1) (write-run .ensures .0 0 names.stop ((third (a .meta) (a .start))))))
+          ((go-on ((done (third′ .given .1) (write-run .ensures .0 (outside edition-1) names.stop ((third (a .meta) (a .start))))))
           (done (fourth′ .given .1)
-          (write-run2 .ensures .0 0 names.accel ((fourth (a .meta) (a .start) (third′ .given .0 .1 .1 .0)))))))
+          (write-run2 .ensures .0 (outside edition-1) names.accel ((fourth (a .meta) (a .start) (third′ .given .0 .1 .1 .0)))))))
           (done (c .before .before .before .before .before .fifth .given .1)
-          (write-run3 .ensures .0 0 names.cov
+          (write-run3 .ensures .0 (outside edition-1) names.cov
           ((flagged (a .meta) (a .start) (third′ .given .0 .1 .1 .0) (fourth′ .given .0 .1 .1 .0))))))) .long,
     )
 
 returns-4 : tie.Need-returns-4
 unfolding run signOf widthOf
 returns-4 c =
-    let a = c .before .before .before .before .before .before .before .before .before .before .before .before .before .before .before .before .before .before .before .before .before .before .before .before .before .before .before .before .before .before .args in
+    λ e. let a = c .before .before .before .before .before .before .before .before .before .before .before .before .before .before .before .before .before .before .before .before .before .before .before .before .before .before .before .before .before .before .args in
     let fourth′ = c .before .before .before .before .before .before .before .before .before .before .before .before .before .fourth in
     let third′ = c .before .before .before .before .before .before .before .before .before .before .before .before .before .before .before .before .before .before .before .before .before .third in
     let write-run = c .before .before .before .before .before .before .before .before .before .before .before .before .before .before .before .before .before .before .before .before .before .before .before .before .before .write-run in
@@ -174,13 +175,13 @@ returns-4 c =
     let write-run3 = c .before .before .before .before .before .before .before .before .before .write-run3 in
     then
     ((go-on
-    ((go-on ((done (third′ .given .1) (write-run .ensures .0 0 names.stop ((third (a .meta) (a .start))))))
+    ((go-on ((done (third′ .given .1) (write-run .ensures .0 e names.stop ((third (a .meta) (a .start))))))
     (done (fourth′ .given .1)
-    (write-run2 .ensures .0 0 names.accel ((fourth (a .meta) (a .start) (third′ .given .0 .1 .1 .0)))))))
+    (write-run2 .ensures .0 e names.accel ((fourth (a .meta) (a .start) (third′ .given .0 .1 .1 .0)))))))
     (done (c .before .before .before .before .before .fifth .given .1)
-    (write-run3 .ensures .0 0 names.cov
+    (write-run3 .ensures .0 e names.cov
     ((flagged (a .meta) (a .start) (third′ .given .0 .1 .1 .0) (fourth′ .given .0 .1 .1 .0)))))))
-    (c .before .before .write-flagged .ensures)
+    (c .before .before .write-flagged .ensures e)
 
 pub write-flags-spec : {M : Type 1} → statement M
 write-flags-spec =

@@ -2,9 +2,10 @@
 -- Assumes nothing.
 use native.Mathlib.Omega.{arith}
 use borrow.Author.Needs.{needs}
-use Rattle.format.specs.Syntax.{Syntax}
+use Rattle.format.specs.Syntax.{edition-1, Syntax}
 use Rattle.runs.specs.Lines.{run, signOf, widthOf}
 use Rattle.runs.proofs.Names as names
+use Rattle.write_runs.specs.Went.{outside}
 use Rattle.write_runs.proofs.WentLaws.{done, stops, then, go-on}
 use Rattle.write_runs.proofs.Runs.{placed-on}
 use Prim.Native.Nat.{ℕ}
@@ -33,7 +34,7 @@ same-length c = search needs
 
 returns : tie.Need-returns
 unfolding position3 run signOf widthOf
-returns c = stops (c .enum-told .given .1) (c .before .before .before .before .write-run .ensures .0 0 names.satellite3 second)
+returns c = λ e. stops (c .enum-told .given .1) (c .before .before .before .before .write-run .ensures .0 e names.satellite3 second)
 
 slice-aggregate-write-run-2 : tie.Need-slice-aggregate-write-run-2
 slice-aggregate-write-run-2 c = search needs
@@ -43,7 +44,7 @@ unfolding run signOf widthOf
 write-run-requires-2 c κs =
     let pre = c .before .before .before .before .before .before .before .before .before .before .before .before .pre in
     let write-run = c .before .before .before .before .before .before .before .write-run in
-    (placed-on pre ((done (c .before .before .before .first .given .1) (write-run .ensures .0 0 names.satellite3 second))), tt)
+    (placed-on pre ((done (c .before .before .before .first .given .1) (write-run .ensures .0 (outside edition-1) names.satellite3 second))), tt)
 
 enum-known-second : tie.Need-enum-known-second
 enum-known-second c = search needs
@@ -57,11 +58,11 @@ same-length-2 c = search needs
 returns-2 : tie.Need-returns-2
 unfolding position3 run signOf widthOf
 returns-2 c =
-    let first = c .before .before .before .before .before .before .before .before .first in
+    λ e. let first = c .before .before .before .before .before .before .before .before .first in
     let write-run = c .before .before .before .before .before .before .before .before .before .before .before .before .write-run in
-    then ((done (first .given .1) (write-run .ensures .0 0 names.satellite3 second)))
+    then ((done (first .given .1) (write-run .ensures .0 e names.satellite3 second)))
     (stops (c .enum-told2 .given .1)
-    (c .before .before .before .before .write-run2 .ensures .0 0 names.start ((unflagged (first .given .0 .1 .1 .0)))))
+    (c .before .before .before .before .write-run2 .ensures .0 e names.start ((unflagged (first .given .0 .1 .1 .0)))))
 
 write-flags-requires : tie.Need-write-flags-requires
 unfolding run signOf widthOf
@@ -71,8 +72,8 @@ write-flags-requires c κs =
     let write-run = c .before .before .before .before .before .before .before .before .before .before .before .before .before .before .write-run in
     let write-run2 = c .before .before .before .before .before .before .write-run2 in
     placed-on pre
-    ((go-on ((done (first .given .1) (write-run .ensures .0 0 names.satellite3 second)))
-    (done (c .before .before .second .given .1) (write-run2 .ensures .0 0 names.start ((unflagged (first .given .0 .1 .1 .0)))))))
+    ((go-on ((done (first .given .1) (write-run .ensures .0 (outside edition-1) names.satellite3 second)))
+    (done (c .before .before .second .given .1) (write-run2 .ensures .0 (outside edition-1) names.start ((unflagged (first .given .0 .1 .1 .0)))))))
 
 same-length-3 : tie.Need-same-length-3
 unfolding run signOf widthOf
@@ -82,22 +83,22 @@ same-length-3 c =
     let write-run2 = c .before .before .before .before .before .before .before .before .before .write-run2 in
     omega (
       arith,
-      ((go-on ((done (first .given .1) (write-run .ensures .0 0 names.satellite3 second)))
+      ((go-on ((done (first .given .1) (write-run .ensures .0 (outside edition-1) names.satellite3 second)))
           (done (c .before .before .before .before .before .second .given .1)
-          (write-run2 .ensures .0 0 names.start ((unflagged (first .given .0 .1 .1 .0))))))) .long,
+          (write-run2 .ensures .0 (outside edition-1) names.start ((unflagged (first .given .0 .1 .1 .0))))))) .long,
     )
 
 returns-3 : tie.Need-returns-3
 unfolding position3 run signOf widthOf
 returns-3 c =
-    let first = c .before .before .before .before .before .before .before .before .before .before .before .before .before .first in
+    λ e. let first = c .before .before .before .before .before .before .before .before .before .before .before .before .before .first in
     let write-run = c .before .before .before .before .before .before .before .before .before .before .before .before .before .before .before .before .before .write-run in
     let write-run2 = c .before .before .before .before .before .before .before .before .before .write-run2 in
     then
-    ((go-on ((done (first .given .1) (write-run .ensures .0 0 names.satellite3 second)))
+    ((go-on ((done (first .given .1) (write-run .ensures .0 e names.satellite3 second)))
     (done (c .before .before .before .before .before .second .given .1)
-    (write-run2 .ensures .0 0 names.start ((unflagged (first .given .0 .1 .1 .0)))))))
-    (c .before .before .write-flags .ensures)
+    (write-run2 .ensures .0 e names.start ((unflagged (first .given .0 .1 .1 .0)))))))
+    (c .before .before .write-flags .ensures e)
 
 pub write-position3-spec : {M : Type 1} → statement M
 write-position3-spec =

@@ -2,9 +2,10 @@
 -- Assumes nothing.
 use native.Mathlib.Omega.{arith}
 use borrow.Author.Needs.{needs}
-use Rattle.format.specs.Syntax.{plan}
+use Rattle.format.specs.Syntax.{edition-1, plan}
 use Rattle.format.specs.Tables.{hopping, beamhopping}
 use Rattle.runs.specs.Lines.{signOf, widthOf, sizeOf, run}
+use Rattle.write_runs.specs.Went.{outside}
 use Rattle.write_runs.proofs.WentLaws.{done, stops, then}
 use Rattle.write_runs.proofs.Runs.{placed-on, moved-done}
 use Rattle.write_plans.proofs.Names.{planNames}
@@ -28,14 +29,14 @@ same-length c = search needs
 
 returns : tie.Need-returns
 unfolding beamhopping run signOf widthOf
-returns c = stops (c .enum-told .given .1) (c .before .before .before .before .write-run .ensures .0 0 planNames (λ _. plan "plan_length" hopping))
+returns c = stops (c .enum-told .given .1) (c .before .before .before .before .write-run .ensures .0 _ planNames (λ _. plan "plan_length" hopping))
 
 write-ended-requires : tie.Need-write-ended-requires
 unfolding run signOf widthOf sizeOf
 write-ended-requires c κs =
     let pre = c .before .before .before .before .before .before .before .before .before .before .before .pre in
     let write-run = c .before .before .before .before .before .before .write-run in (
-      placed-on (pre .0) (done (c .before .before .head .given .1) (write-run .ensures .0 0 planNames (λ _. plan "plan_length" hopping))),
+      placed-on (pre .0) (done (c .before .before .head .given .1) (write-run .ensures .0 (outside edition-1) planNames (λ _. plan "plan_length" hopping))),
       omega
           (arith, (moved-done (c .before .before .head .given .1) (write-run .ensures .1 .1)) .0, pre .1),
     )
@@ -47,7 +48,7 @@ returns-2 : tie.Need-returns-2
 unfolding beamhopping run signOf widthOf
 returns-2 c =
     let write-run = c .before .before .before .before .before .before .before .before .before .write-run in
-    then (done (c .before .before .before .before .before .head .given .1) (write-run .ensures .0 0 planNames (λ _. plan "plan_length" hopping)))
+    then (done (c .before .before .before .before .before .head .given .1) (write-run .ensures .0 _ planNames (λ _. plan "plan_length" hopping)))
     (c .before .before .write-ended .ensures)
 
 pub write-plan-spec : {M : Type 1} → statement M

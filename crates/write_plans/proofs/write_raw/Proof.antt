@@ -1,12 +1,18 @@
--- `write_raw`: the length and the bytes, one store behind the other.
+-- `write_raw`: the bytes up to the plan's end, behind their count.
 -- Assumes nothing.
 use Prim.Native.Nat.{_*_}
 use native.Mathlib.Omega.{arith}
-use borrow.Author.Needs.{needs}
 use lib.ListN.{length}
+use denote.Ref.{now}
+use Rattle.write_runs.specs.Went.{inside}
 use Rattle.write_plans.proofs.SlotLaws.{raw-fits, raw-done}
+use borrow.Author.Needs.{needs}
 use Rattle.write_plans.proofs.write_raw.Statement.{statement}
 use Rattle.write_plans.proofs.write_raw.Tie as tie
+use Rattle.write_plans.proofs.write_raw.Reads as reads
+use Rattle.write_plans.proofs.write_raw.Lts as lts
+use Rattle.write_plans.proofs.raw_bits.Reads as raw-bits-reads
+use Rattle.write_plans.proofs.write_bytes.Reads as write-bytes-reads
 
 mul-raw-bits : tie.Need-mul-raw-bits
 mul-raw-bits c = search needs
@@ -14,69 +20,34 @@ mul-raw-bits c = search needs
 raw-bits-requires : tie.Need-raw-bits-requires
 raw-bits-requires c κs = search needs
 
-put-requires : tie.Need-put-requires
-put-requires c κs = search needs
-
-add-write-bits : tie.Need-add-write-bits
-add-write-bits c = search needs
-
-write-bits-requires : tie.Need-write-bits-requires
-write-bits-requires c κs =
-    let a = c .before .before .before .before .before .before .before .before .args in
-    let pre = c .before .before .before .before .before .before .before .before .pre in
-    let raw-bits = c .before .before .before .before .before .raw-bits in
-    omega (
-      arith,
-      pre .0 .short,
-      pre .0 .within,
-      pre .0 .behind,
-      (raw-fits (a .at) (a .stop) (8 * length (a .body .now)) (raw-bits .result) (pre .0 .within) (pre .1 .0) (pre .1 .1)
-          (raw-bits .ensures)) .fits,
-    )
-
-add-t7 : tie.Need-add-t7
-add-t7 c =
-    let a = c .before .before .before .before .before .before .before .before .before .before .before .args in
-    let pre = c .before .before .before .before .before .before .before .before .before .before .before .pre in
-    let raw-bits = c .before .before .before .before .before .before .before .before .raw-bits in
-    omega (
-      arith,
-      pre .0 .short,
-      pre .0 .within,
-      pre .0 .behind,
-      (raw-fits (a .at) (a .stop) (8 * length (a .body .now)) (raw-bits .result) (pre .0 .within) (pre .1 .0) (pre .1 .1)
-          (raw-bits .ensures)) .fits,
-    )
+write-bytes-requires : tie.Need-write-bytes-requires
+write-bytes-requires c κs =
+    let a = c .before .before .before .before .args in
+    let pre = c .before .before .before .before .pre in
+    let raw-bits = c .before .raw-bits in
+    let f = raw-fits (a .at) (a .stop) (8 * length (now (a .body))) (raw-bits .result) (pre .0 .within) (pre .1 .0) (pre .1 .1) (raw-bits .ensures) in
+    (pre .0 .short, f .fits, f .whole, omega (arith, pre .0 .behind, pre .0 .within, pre .0 .short))
 
 add-t8 : tie.Need-add-t8
-add-t8 c = search needs
-
-add-t16 : tie.Need-add-t16
-add-t16 c = search needs
+add-t8 c =
+    let a = c .before .before .before .before .before .before .before .args in
+    let pre = c .before .before .before .before .before .before .before .pre in
+    let raw-bits = c .before .before .before .before .raw-bits in
+    let f = raw-fits (a .at) (a .stop) (8 * length (now (a .body))) (raw-bits .result) (pre .0 .within) (pre .1 .0) (pre .1 .1) (raw-bits .ensures) in
+    omega (arith, f .fits, pre .0 .short)
 
 same-length : tie.Need-same-length
 same-length c = search needs
 
 returns : tie.Need-returns
 returns c =
-    let a = c .before .before .before .before .before .before .before .before .before .before .before .args in
-    let pre = c .before .before .before .before .before .before .before .before .before .before .before .pre in
-    let put = c .before .before .before .before .before .before .put in
-    let raw-bits = c .before .before .before .before .before .before .before .before .raw-bits in
-    λ nm. record
-    { to = raw-done nm (pre .0 .within) (raw-bits .ensures) (raw-fits (a .at) (a .stop) (8 * length (a .body .now)) (raw-bits .result) (pre .0 .within) (pre .1 .0) (pre .1 .1) (raw-bits .ensures)) (put .ensures) (c .before .before .write-bits .ensures) }
+    let a = c .before .before .before .before .before .before .before .args in
+    let pre = c .before .before .before .before .before .before .before .pre in
+    let raw-bits = c .before .before .before .before .raw-bits in
+    let f = raw-fits (a .at) (a .stop) (8 * length (now (a .body))) (raw-bits .result) (pre .0 .within) (pre .1 .0) (pre .1 .1) (raw-bits .ensures) in
+    λ ed nm. record { to = raw-done {e = inside ed (a .stop)} nm (pre .0 .within) (raw-bits .ensures) f (c .before .before .write-bytes .ensures) }
 
 pub write-raw-spec : {M : Type 1} → statement M
 write-raw-spec =
     tie.close
-    (tie.spec
-    mul-raw-bits
-    raw-bits-requires
-    put-requires
-    add-write-bits
-    write-bits-requires
-    add-t7
-    add-t8
-    add-t16
-    same-length
-    returns)
+    (tie.spec mul-raw-bits raw-bits-requires write-bytes-requires add-t8 same-length returns)
