@@ -126,9 +126,8 @@ def ledger_problems(given):
         edition, table_id, body = read_ledger(given)
     except Fault:
         return failed({"refused, but a ledger": not has_body(given)})
-    return failed({"accepted, but no ledger": has_body(given),
-                   "the body's ledger": ledger(table_id, body, edition) == given,
-                   "the body of the body": body_as(table_id, body, edition) == body})
+    return failed({"accepted, but not the ledger of the body given": ledger(table_id, body, edition) == given,
+                   "the body of the body given": body_as(table_id, body, edition) == body})
 
 
 def problems_of(holds, given):
