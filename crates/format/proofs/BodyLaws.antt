@@ -65,7 +65,8 @@ closed {us = us} n e fs rest (Good.past t q r) last h x =
     }
 
 module _ (n : ℕ) where
-  -- l: nothing follows, if the fields may be a plan that ends past the data; within a plan, its end is not passed and its raw bytes are up to it
+  -- l: nothing follows, if the fields may be a plan that ends past the data; within a plan, its end is not passed and
+  -- its raw bytes are up to it
   pub reread : {l i : Bool} {s : Syntax} {ts : List Field} (e : ℕ) (rest : List ℕ) → Good.Good l i s ts
       → length (kept ts) ≤ 32768 → length (kept ts) + length rest ≤ n → ((T i → ⊥) → l ≡ true → rest ≡ [])
       → (T i → (n - length rest ≤ e) × (rawLeft (leb e n) (e - (n - length rest)) ts ≡ true))

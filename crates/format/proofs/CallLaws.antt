@@ -239,7 +239,8 @@ pub ledger-of-result : {l out b : List ℕ} {id : ℕ} → Below 256 l → Gave 
     → (out′ : List ℕ) → length l ≤ length out′ → Wrote (editionOf l) id b out′ l
 ledger-of-result {b = b} {id} hl g out′ h = let o = gave-read g in written-again id b out′ hl (o .1) (o .2) (o .3) h
 
--- a byte string is accepted, given a large enough buffer, exactly if it is the ledger of some pair in an edition; so it is refused exactly if it is one in neither
+-- a byte string is accepted, given a large enough buffer, exactly if it is the ledger of some pair in an edition; so it
+-- is refused exactly if it is one in neither
 pub read-exactly : (l out : List ℕ) → Below 256 l → Enough (length out) (restored l) → (numberOf (readAnswer l (length out)) ≡ 0) ↔ ((ed : Edition) × IsLedger ed l)
 unfolding readAnswer
 read-exactly l out hl h = (there, back)

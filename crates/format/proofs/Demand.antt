@@ -86,7 +86,8 @@ good-accepted id {t} h g m =
       reads = rw (le-leb (length (keptOf t)) 4096 m, read-kept (fine-layout id) g m);
     }
 
--- an edition's body is accepted, and has the fields that come back through that edition, hence the same ledger and itself for its body
+-- an edition's body is accepted, and has the fields that come back through that edition, hence the same ledger and
+-- itself for its body
 pub body-again : {id : ℕ} {b : List ℕ} {t : Table} (ed : Edition) → Accepted id b t → Accepted id (bodyOf ed t) (formOf ed t)
 body-again {id} {t = t} ed p =
     let g = accepted-good p in

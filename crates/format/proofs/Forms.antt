@@ -1,5 +1,5 @@
--- What comes back of fields through an edition: in the first a plan's length is exact and its filler empty. So the plain body is the kept
--- body of what comes back, and all that is to be shown of bodies is shown of kept ones.
+-- What comes back of fields through an edition: in the first a plan's length is exact and its filler empty. So the
+-- plain body is the kept body of what comes back, and all that is to be shown of bodies is shown of kept ones.
 -- Assumes nothing.
 use mathlib.Core.Path.{_≡_, refl, sym, ap, ap₂, _∙_}
 use mathlib.Core.Bool.{Bool, true}

@@ -61,7 +61,8 @@ raw-none (bytes nm bs ∷ ts) = refl
 raw-none (len nm v ∷ ts) = raw-none ts
 raw-none (filler fs ∷ ts) = raw-none ts
 
--- What is known of a plan's length and filler: whole bytes, a length that fits 12 bits or else is exact, and as such a plan leaves them.
+-- What is known of a plan's length and filler: whole bytes, a length that fits 12 bits or else is exact, and as such a
+-- plan leaves them.
 pub record Ending (l : Bool) (v : ℕ) (fs : List ℕ) (ts : List Field) : Type 0 where
   pub fields : length (kept ts) % 8 ≡ 0
   pub whole : length fs % 8 ≡ 0
@@ -69,7 +70,8 @@ pub record Ending (l : Bool) (v : ℕ) (fs : List ℕ) (ts : List Field) : Type 
   pub wide : 2 ^ 12 ≤ v → 8 * v ≡ length (kept ts) + length fs
   pub leaves : Leaves l v ts (length fs)
 
--- The fields that a description allows. l: whether nothing follows them, so that a plan may end past the data; i: whether a plan is around them
+-- The fields that a description allows. l: whether nothing follows them, so that a plan may end past the data; i:
+-- whether a plan is around them
 pub data Good (l : Bool) : Bool → Syntax → List Field → Type 0 where
   g-end : {i : Bool} → Good l i end []
   g-field : {i : Bool} (g : Sign) (nm : Name) (w : ℕ) (k : ℕ → Syntax) (v : ℕ) {ts : List Field} → T (leb w (widest g)) → v < 2 ^ w → Good l i (k v) ts → Good l i (field g nm w k) (num g nm w v ∷ ts)
@@ -251,8 +253,9 @@ planless m p (g-raw nm bs h a) = g-raw nm bs h a
 
 -- ---- what is asked of a description
 
--- Widths are ones that a ledger has; refusals have numbers; what `need` asks for follows; slots and raw bytes start on a byte and
--- an entry ends on one; no plan stands in a plan; a ledger takes at most a byte for four bits, also with a plan's length and the filler's count.
+-- Widths are ones that a ledger has; refusals have numbers; what `need` asks for follows; slots and raw bytes start on
+-- a byte and an entry ends on one; no plan stands in a plan; a ledger takes at most a byte for four bits, also with a
+-- plan's length and the filler's count.
 -- b: the bits before, from a place that starts a byte; c: their bytes in the ledger
 abbrev pub Fine : Bool → ℕ → ℕ → Syntax → Type 0
 Fine i b c end = (b % 8 ≡ 0) × T (leb (4 * c) b)

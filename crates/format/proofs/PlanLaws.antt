@@ -1,5 +1,5 @@
--- What code that reads a plan of edition 2 goes by: its length is read as a field of 12 bits, its filler as raw bytes are, and whether its
--- fields have raw bytes is known by the mode.
+-- What code that reads a plan of edition 2 goes by: its length is read as a field of 12 bits, its filler as raw bytes
+-- are, and whether its fields have raw bytes is known by the mode.
 -- Assumes nothing.
 use mathlib.Core.Path.{_≡_, refl, sym, ap, _∙_}
 use mathlib.Core.Bool.{Bool, true, false, cond}

@@ -102,8 +102,8 @@ ledgers ed (ts ∷ es) = ledger ed ts ++ ledgers ed es
 abbrev pub packed : List ℕ → List ℕ
 packed bs = bytesOf (length bs / 8) bs
 
--- Every field once, padding zero, nothing over. In edition 1 the "plain body": plan lengths exact, no filler; in edition
--- 2 the "kept body" (S-18): both as they came.
+-- Every field once, padding zero, nothing over. In edition 1 the "plain body": plan lengths exact, no filler; in
+-- edition 2 the "kept body" (S-18): both as they came.
 unfoldable pub bodyOf : Edition → Table → List ℕ
 bodyOf ed (one ts) = packed (laid ed ts)
 bodyOf ed (list hs es) = packed (laid ed hs ++ laids ed es)

@@ -1,5 +1,5 @@
--- A whole entry of a ledger laid as a body: as `Came` and `Laid` have it, but that a plan's length is laid too, to which
--- in the first edition nothing can be joined. And the parts of a plan: its length, its end.
+-- A whole entry of a ledger laid as a body: as `Came` and `Laid` have it, but that a plan's length is laid too, to
+-- which in the first edition nothing can be joined. And the parts of a plan: its length, its end.
 -- Assumes nothing: these are definitions.
 use Prim.Native.Nat.{ℕ, _+_, _*_, _≤_}
 use mathlib.Core.Path.{_≡_}
@@ -62,8 +62,8 @@ OpenedTo edition-2 l place at out out′ r =
 pub record Opened (ed : Edition) (l : List ℕ) (place at : ℕ) (out out′ : List ℕ) (r : Step) : Type 0 where
   pub to : OpenedTo ed l place at out out′ r
 
--- The end of a plan of the second edition, behind whatever came before it. start, begin: the places of its length in the
--- ledger and, in bits, in the body
+-- The end of a plan of the second edition, behind whatever came before it. start, begin: the places of its length in
+-- the ledger and, in bits, in the body
 pub record Closed (last : Bool) (l : List ℕ) (start begin place at : ℕ) (out out′ : List ℕ) (r : Step) : Type 0 where
   pub to : (s : Syntax) (place₀ at₀ : ℕ) (out₀ out₁ : List ℕ) → Came (wayOf edition-2 last) l s place₀ at₀ out₀ (plan "plan_length" hopping) start begin out₁
       → Came (wayOf edition-2 last) l (field unsigned "plan_length" 12 (λ _. hopping)) start begin out₁ end place at out → Taken (wayOf edition-2 last) l s place₀ at₀ out₀ out′ r

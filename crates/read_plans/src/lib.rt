@@ -199,8 +199,8 @@ fn read_length(version: u8, ledger: &[u8], place: usize, out: &mut [u8], at: usi
     }
 }
 
-// The filler of a plan, and the test of its length, its raw bytes and the filler; `length_place` and `length_at` are the
-// places of its length in the ledger and in the body.
+// The filler of a plan, and the test of its length, its raw bytes and the filler; `length_place` and `length_at` are
+// the places of its length in the ledger and in the body.
 fn read_filler(
     ledger: &[u8],
     length_place: usize,
