@@ -10,7 +10,7 @@ use lib.ListN.{length, take, drop, replicate, length-append, length-take, length
 use lib.Seq.{take-at, drop-at, take-all, length-take-le, drop-append-seam, take-append-seam}
 use borrow.Author.Tests.{le-leb, lt-leb, leb-true, leb-false, eq-eqb, eqb-true}
 use Rattle.format.specs.Digits.{digits, value, Below}
-use Rattle.format.specs.Syntax.{Name, Syntax, end, field, when, need, slots, plan, raw, Field, num, flags, bytes, edition-2, got}
+use Rattle.format.specs.Syntax.{Name, Syntax, end, field, when, need, atMost, slots, plan, raw, Field, num, flags, bytes, edition-2, got}
 use Rattle.format.specs.Body.{wholes, planned, readBody, laid, kept}
 use Rattle.format.specs.Ledger.{size, rawLeft}
 use Rattle.format.proofs.DigitLaws.{length-digits, value-digits, value-lt, below-take, below-drop, has-at}
@@ -89,6 +89,7 @@ module _ (n : ℕ) where
   reread e rest (Good.g-no r) m f y x = reread e rest r m f y x
   reread e rest (Good.g-need a w {ts} h r) m f y x =
       rw (le-leb w (length (kept ts ++ rest)) (omega (arith, length-append (kept ts) rest))) (reread e rest r m f y x)
+  reread e rest (Good.g-most a v j h r) m f y x = rw (le-leb v j h) (reread e rest r m f y x)
   reread e rest (Good.g-slots nm a j bs {ts} c h r) m f y x =
       let z : List ℕ = replicate (8 * wholes (length bs) - length bs) 0 in
       let t : length (kept (flags nm bs ∷ ts)) ≡ 8 * wholes (length bs) + length (kept ts) = Good.laid-flags edition-2 nm bs ts in
@@ -255,6 +256,10 @@ module _ (n : ℕ) (n8 : n % 8 ≡ 0) where
       let p = cond-got (leb w (length bs)) _ _ _ _ q in
       let r : Read n e l i k bs ts rest = sound l i b c e k bs (f .2) h a g x y (p .1) in
       again r (Good.g-need j w (Good.least w (r .good) (f .1)) (r .good))
+  sound l i b c e (atMost j v m k) bs {ts} {rest} f h a g x y q =
+      let p = cond-got (leb v m) _ _ _ _ q in
+      let r : Read n e l i k bs ts rest = sound l i b c e k bs (f .2) h a g x y (p .1) in
+      again r (Good.g-most j v m (leb-true v m (p .0)) (r .good))
   sound l i b c e (slots nm j m k) bs {ts} {rest} f h a g x y q =
       let fl : Field = flags nm (take m bs) in
       let after : List ℕ = drop (8 * wholes m) bs in

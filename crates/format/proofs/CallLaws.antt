@@ -1,6 +1,6 @@
 -- Demands 1 and 3 of what the ledger's writers and reader return and leave in their buffers.
 -- Assumes nothing.
-use mathlib.Core.Path.{_≡_, refl, sym, ap, _∙_, subst}
+use mathlib.Core.Path.{_≡_, refl, sym, ap, ap₂, _∙_, subst}
 use mathlib.Core.Bool.{Bool, true, false, cond}
 use mathlib.Core.Logic.{_↔_}
 use mathlib.Core.List.{List, [], _++_}
@@ -14,15 +14,17 @@ use borrow.Author.Tests.{le-leb, lt-leb, leb-true}
 use Rattle.format.specs.Digits.{Below, splice}
 use Rattle.format.specs.Refusals.{refuse}
 use Rattle.format.specs.Syntax.{Edition, Parse, got, refused, andThen}
-use Rattle.format.specs.Whole.{Table, bodyRead, Accepted, bodyOf, ledgerOf, idOf, editionOf, ledgerRead}
+use Rattle.format.specs.Whole.{Table, bodyRead, Accepted, AcceptedBefore, bodyOf, ledgerOf, idOf, editionOf, ledgerRead}
 use Rattle.format.specs.Calls.{numberOf, tableIdOf, lengthOf, answer, Fitted, left, resultIn, Enough, filed, relaid, restored, writeAnswer, writeLeft, readAnswer, readLeft, Wrote, Gave}
 use Rattle.format.specs.declared.Refusal.{Refusal}
 use Rattle.format.specs.declared.Answer.{Answer}
 use Rattle.format.specs.declared.Answer.the-variants.{Done, Refused}
 use Rattle.format.proofs.ParseLaws.{then-got}
-use Rattle.format.proofs.NumberLaws.{Numbered, accepts, refuses, numbered-then, numbered-bodyRead, numbered-ledgerRead}
-use Rattle.format.proofs.TableLaws.{formOf, body-formOf}
-use Rattle.format.proofs.Demand.{IsLedger, body-all, ledger-all, ledger-length, ledger-again, read-accepted, same-ledger, id-of, edition-of, ledger-exactly}
+use Rattle.format.proofs.NumberLaws as numbers
+use Rattle.format.proofs.NumberLaws.{Numbered, accepts, numbered-then, numbered-bodyRead, numbered-ledgerRead}
+use Rattle.format.proofs.TableLaws.{fine-layout, formOf, body-formOf}
+use Rattle.format.proofs.TestLaws.{Still, still, refuses}
+use Rattle.format.proofs.Demand.{IsLedger, ledger-before, accepted-before, still-accepted, body-again, ledger-formOf, body-all, ledger-all, ledger-length, ledger-again, read-accepted, same-ledger, id-of, edition-of, ledger-exactly}
 
 -- ---- any result and the buffer that is lent for it
 
@@ -90,7 +92,7 @@ refused-keeps id out (got xs rest) h = go (leb (length xs) (length out)) _ h
 pub accepts-result : (id room : ℕ) (p : Parse (List ℕ)) → Numbered p → numberOf (answer id room p) ≡ 0
     → (xs : List ℕ) × (rest : List ℕ) × (p ≡ got xs rest) × (length xs ≤ room)
 unfolding answer numberOf
-accepts-result id room (refused x y z) (refuses n) e = absurd (omega (arith, n))
+accepts-result id room (refused x y z) (numbers.refuses n) e = absurd (omega (arith, n))
 accepts-result id room (got xs rest) n e = (xs, rest, refl, go (leb (length xs) room) refl _ (omega arith) e)
   where
     go : (t : Bool) → leb (length xs) room ≡ t → (f : Refusal) → 0 < f .number → numberOf (cond t (Done id (length xs)) (Refused f)) ≡ 0 → length xs ≤ room
@@ -206,7 +208,7 @@ pub share-exactly : {ed : Edition} {id id′ : ℕ} {b b′ out out′ l l′ : 
 share-exactly {ed} {id} {id′} {b} {b′} {l = l} {l′ = l′} hi hi′ hb hb′ w w′ =
     let o = wrote-accepted hi hb w in
     let o′ = wrote-accepted hi′ hb′ w′ in
-    let s = same-ledger ed (o .1) (o′ .1) in (
+    let s = same-ledger ed (accepted-before (o .1)) (accepted-before (o′ .1)) in (
       λ e. let r = s .0 (o .2 ∙ e ∙ sym (o′ .2)) in (r .0, relaid-of ed (o .1) ∙ ap (λ (x : List ℕ). got x []) (r .1) ∙ sym (relaid-of ed (o′ .1))),
       λ r. sym (o .2) ∙ s .1 (r .0, inj (sym (relaid-of ed (o .1)) ∙ r .1 ∙ relaid-of ed (o′ .1))) ∙ o′ .2,
     )
@@ -220,47 +222,99 @@ pub gives-back : {ed : Edition} {id : ℕ} {b out l : List ℕ} → id < 256 →
 gives-back {ed} {id} {b} {l = l} hi hb w out′ h =
     let o = wrote-accepted hi hb w in
     let t : Table = formOf ed (o .0) in
-    let e : ledgerRead l ≡ got t [] = ap ledgerRead (sym (o .2)) ∙ ledger-again ed (o .1) in
+    let e : ledgerRead l ≡ got t [] = ap ledgerRead (sym (o .2)) ∙ ledger-again ed (accepted-before (o .1)) in
     let i : idOf l ≡ id = ap idOf (sym (o .2)) ∙ id-of ed id (o .0) in
     let d : editionOf l ≡ ed = ap editionOf (sym (o .2)) ∙ edition-of ed id (o .0) in
     let z : bodyOf (editionOf l) t ≡ bodyOf ed (o .0) = ap (λ (x : Edition). bodyOf x t) d ∙ body-formOf ed (o .0) in
     (bodyOf ed (o .0), relaid-of ed (o .1), rw (i, z) at (read-gave out′ e (enough-body l t (length out′) e h)))
 
--- what is read of a ledger has it for its ledger, under the id and body that the reader names
-written-again : {l : List ℕ} {t : Table} (id : ℕ) (b out : List ℕ) → Below 256 l → ledgerRead l ≡ got t [] → idOf l ≡ id → bodyOf (editionOf l) t ≡ b → length l ≤ length out → Wrote (editionOf l) id b out l
-written-again {l} {t} id b out hl e ei eb h =
-    let ed : Edition = editionOf l in
-    let q = read-accepted l t hl e in
-    let w : Wrote ed (idOf l) (bodyOf ed t) out (ledgerOf ed (idOf l) t) = accepted-wrote ed out (q .0) (rw (q .1) h) in
-    subst (λ (x : List ℕ). Wrote ed id b out x) (q .1) (subst (λ (x : List ℕ). Wrote ed id x out (ledgerOf ed (idOf l) t)) eb (subst (λ (x : ℕ). Wrote ed x (bodyOf ed t) out (ledgerOf ed (idOf l) t)) ei w))
+-- and that body under that id is accepted and has that byte string as its ledger again
+pub ledger-of-result : {ed : Edition} {id id′ : ℕ} {b p out out′ l : List ℕ} → id < 256 → Below 256 b → Wrote ed id b out l → Gave l out′ id′ p
+    → (out″ : List ℕ) → length l ≤ length out″ → Wrote ed id′ p out″ l
+ledger-of-result {ed} {id} {id′} {b} {p} {l = l} hi hb w g out″ h =
+    let o = wrote-accepted hi hb w in
+    let q = gave-read g in
+    let t : Table = o .0 in
+    let e : ledgerRead l ≡ got (formOf ed t) [] = ap ledgerRead (sym (o .2)) ∙ ledger-again ed (accepted-before (o .1)) in
+    let d : editionOf l ≡ ed = ap editionOf (sym (o .2)) ∙ edition-of ed id t in
+    let s : q .0 ≡ formOf ed t = inj (sym (q .1) ∙ e) in
+    let i : id ≡ id′ = sym (ap idOf (sym (o .2)) ∙ id-of ed id t) ∙ q .2 in
+    let z : bodyOf ed t ≡ p = sym (body-formOf ed t) ∙ ap₂ bodyOf (sym d) (sym s) ∙ q .3 in
+    let y : ledgerOf ed id (formOf ed t) ≡ l = ledger-formOf ed id t ∙ o .2 in
+    given i z y (accepted-wrote ed out″ (body-again ed (fine-layout id) (o .1)) (rw y h))
+  where
+    inj : {u v : Table} → got u [] ≡ got v [] → u ≡ v
+    inj e = cc
 
--- this body under this id is accepted and has that byte string as its ledger again, in the edition that it names
-pub ledger-of-result : {l out b : List ℕ} {id : ℕ} → Below 256 l → Gave l out id b
-    → (out′ : List ℕ) → length l ≤ length out′ → Wrote (editionOf l) id b out′ l
-ledger-of-result {b = b} {id} hl g out′ h = let o = gave-read g in written-again id b out′ hl (o .1) (o .2) (o .3) h
+    given : {i j : ℕ} {x y m k : List ℕ} → i ≡ j → x ≡ y → m ≡ k → Wrote ed i x out″ m → Wrote ed j y out″ k
+    given a c d′ r = rw (← a, ← c, ← d′) r
 
--- a byte string is accepted, given a large enough buffer, exactly if it is the ledger of some pair in an edition; so it
--- is refused exactly if it is one in neither
-pub read-exactly : (l out : List ℕ) → Below 256 l → Enough (length out) (restored l) → (numberOf (readAnswer l (length out)) ≡ 0) ↔ ((ed : Edition) × IsLedger ed l)
+-- ---- demand 3 of any byte string; what is read may be a stored ledger, of a body accepted before
+
+-- a stored ledger is read, and turned into its body
+pub stored-given : {ed : Edition} {l : List ℕ} (r : IsLedger AcceptedBefore ed l) (out : List ℕ) → Enough (length out) (restored l) → Gave l out (r .id) (bodyOf ed (r .table))
+stored-given {ed} {l} r out h =
+    let t : Table = formOf ed (r .table) in
+    let e : ledgerRead l ≡ got t [] = ap ledgerRead (sym (r .is)) ∙ ledger-again ed (r .accepted) in
+    let i : idOf l ≡ r .id = ap idOf (sym (r .is)) ∙ id-of ed (r .id) (r .table) in
+    let d : editionOf l ≡ ed = ap editionOf (sym (r .is)) ∙ edition-of ed (r .id) (r .table) in
+    let z : bodyOf (editionOf l) t ≡ bodyOf ed (r .table) = ap (λ (x : Edition). bodyOf x t) d ∙ body-formOf ed (r .table) in
+    rw (i, z) at (read-gave out e (enough-body l t (length out) e h))
+
+-- the body that comes back has that byte string as its ledger again, in the edition that it names; or it no longer reads, for an extension above 299
+pub data Again (l : List ℕ) (id : ℕ) (b : List ℕ) : Type 0 where
+  written : ((out : List ℕ) → length l ≤ length out → Wrote (editionOf l) id b out l) → Again l id b
+  no-more : (v : ℕ) → 299 < v → bodyRead id b ≡ refused 30 v 299 → Again l id b
+
+read-again : {l : List ℕ} {t : Table} → Below 256 l → ledgerRead l ≡ got t [] → Again l (idOf l) (bodyOf (editionOf l) t)
+read-again {l} {t} hl e = go (still-accepted (q .0))
+  where
+    ed : Edition
+    ed = editionOf l
+
+    q : AcceptedBefore (idOf l) (bodyOf ed t) t × (ledgerOf ed (idOf l) t ≡ l)
+    q = read-accepted l t hl e
+
+    go : Still (bodyRead (idOf l) (bodyOf ed t)) t [] → Again l (idOf l) (bodyOf ed t)
+    go (still r) =
+        written (λ out h. subst (λ (x : List ℕ). Wrote ed (idOf l) (bodyOf ed t) out x) (q .1)
+        (accepted-wrote ed out (record { byte = q .0 .byte; bytes = q .0 .bytes; reads = r }) (rw (q .1) h)))
+    go (refuses v h r) = no-more v h r
+
+pub result-again : {l out b : List ℕ} {id : ℕ} → Below 256 l → Gave l out id b → Again l id b
+result-again {l} hl g =
+    let o = gave-read g in
+    given (o .2) (o .3) (read-again hl (o .1))
+  where
+    given : {i j : ℕ} {x y : List ℕ} → i ≡ j → x ≡ y → Again l i x → Again l j y
+    given a c r = rw (← a, ← c) r
+
+-- a byte string is accepted, given a large enough buffer, exactly if it is the ledger, in an edition, of some pair
+-- accepted before
+pub read-exactly : (l out : List ℕ) → Below 256 l → Enough (length out) (restored l) → (numberOf (readAnswer l (length out)) ≡ 0) ↔ ((ed : Edition) × IsLedger AcceptedBefore ed l)
 unfolding readAnswer
 read-exactly l out hl h = (there, back)
   where
-    there : numberOf (answer (idOf l) (length out) (restored l)) ≡ 0 → (ed : Edition) × IsLedger ed l
+    there : numberOf (answer (idOf l) (length out) (restored l)) ≡ 0 → (ed : Edition) × IsLedger AcceptedBefore ed l
     there e =
         let o = accepts-result (idOf l) (length out) (restored l) (numbered-restored l) e in
         let q = restored-table l (o .0) (o .1) (o .2) in
         ledger-exactly l hl .0 (q .0, q .1)
 
-    back : (ed : Edition) × IsLedger ed l → numberOf (answer (idOf l) (length out) (restored l)) ≡ 0
+    back : (ed : Edition) × IsLedger AcceptedBefore ed l → numberOf (answer (idOf l) (length out) (restored l)) ≡ 0
     back r =
         let o = ledger-exactly l hl .1 r in
         read-gave out (o .1) (enough-body l (o .0) (length out) (o .1) h) .accepts
 
-pub refused-exactly : (l out : List ℕ) → Below 256 l → Enough (length out) (restored l) → (numberOf (readAnswer l (length out)) ≡ 0 → ⊥) ↔ ((ed : Edition) → IsLedger ed l → ⊥)
+-- so it is refused exactly if it is a ledger, in neither edition, of a body accepted now or before
+pub refused-exactly : (l out : List ℕ) → Below 256 l → Enough (length out) (restored l)
+    → (numberOf (readAnswer l (length out)) ≡ 0 → ⊥) ↔ ((ed : Edition) → (IsLedger Accepted ed l → ⊥) × (IsLedger AcceptedBefore ed l → ⊥))
 refused-exactly l out hl h =
-    let r = read-exactly l out hl h in
-    (λ no-accept ed ledger. no-accept (r .1 (ed, ledger)), λ no-ledger accept. let o = r .0 accept in no-ledger (o .0) (o .1))
+    let r = read-exactly l out hl h in (
+      λ no-accept ed. (λ ledger. no-accept (r .1 (ed, ledger-before ledger)), λ ledger. no-accept (r .1 (ed, ledger))),
+      λ no-ledger accept. let o = r .0 accept in no-ledger (o .0) .1 (o .1),
+    )
 
 -- the bound
 pub wrote-length : {ed : Edition} {id : ℕ} {b out l : List ℕ} → id < 256 → Below 256 b → Wrote ed id b out l → length l ≤ 6 + 2 * length b
-wrote-length {ed} hi hb w = let o = wrote-accepted hi hb w in rw (← o .2) (ledger-length ed (o .1))
+wrote-length {ed} {id} hi hb w = let o = wrote-accepted hi hb w in rw (← o .2) (ledger-length ed (fine-layout id) (o .1))

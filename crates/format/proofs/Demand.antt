@@ -11,10 +11,11 @@ use lib.ListN.{length, take, drop, getD, length-append, length-drop}
 use borrow.Author.Tests.{le-leb, leb-true, eq-eqb, eqb-true}
 use Rattle.format.specs.Digits.{digits, value, Below}
 use Rattle.format.specs.Syntax.{Edition, edition-1, edition-2, Parse, got}
-use Rattle.format.specs.Whole.{layout, Table, bodyRead, Accepted, bodyOf, keptOf, contentOf, version, ledgerOf, contentAs, sized, versionOf, idOf, known, editionFor, editionOf, ledgerRead}
+use Rattle.format.specs.Whole.{Layout, layout, layoutBefore, Table, bodyReadAs, bodyRead, AcceptedAs, Accepted, AcceptedBefore, bodyOf, keptOf, contentOf, version, ledgerOf, contentAs, sized, versionOf, idOf, known, editionFor, editionOf, ledgerRead}
 use Rattle.format.proofs.DigitLaws.{length-digits, value-digits, digits-take, below-drop, digit-in}
 use Rattle.format.proofs.ParseLaws.{cond-got, then-got}
-use Rattle.format.proofs.TableLaws.{GoodTable, fine-layout, formOf, kept-formOf, content-formOf, body-formOf, good-formOf, kept-bytes, body-short, content-length, read-kept, content-again, read-good, content-good, read-all, content-all}
+use Rattle.format.proofs.TestLaws.{Still, tested-got, tested-still, tested-read}
+use Rattle.format.proofs.TableLaws.{FineLayout, GoodTable, fine-layout, fine-before-layout, content-before, formOf, kept-formOf, content-formOf, body-formOf, good-formOf, kept-bytes, body-short, content-length, read-kept, content-again, read-good, content-good, read-all, content-all}
 
 sized-got : {t : Table} {rest : List ℕ} (ed : Edition) (p : Parse Table) → sized ed p ≡ got t rest → (p ≡ got t rest) × (length (bodyOf ed t) ≤ 4096)
 sized-got {t} {rest} ed p e =
@@ -26,7 +27,7 @@ sized-got {t} {rest} ed p e =
 
 -- nothing is left of a whole body or a whole ledger
 pub body-all : (id : ℕ) (b : List ℕ) {t : Table} {r : List ℕ} → bodyRead id b ≡ got t r → r ≡ []
-unfolding bodyRead
+unfolding bodyReadAs
 body-all id b e = read-all (layout id) b (cond-got (leb (length b) 4096) _ _ _ _ e .1)
 
 -- a version that is known is its edition's
@@ -66,47 +67,60 @@ passed l e =
 pub ledger-all : (l : List ℕ) {t : Table} {r : List ℕ} → ledgerRead l ≡ got t r → r ≡ []
 ledger-all l e = content-all (editionOf l) (length l) (layout (idOf l)) (drop 4 l) (passed l e .content)
 
--- ---- an accepted body, and its plain and kept body
+-- ---- accepted now and accepted before
+
+-- what is accepted now was accepted before, with the same fields
+pub accepted-before : {id : ℕ} {b : List ℕ} {t : Table} → Accepted id b t → AcceptedBefore id b t
+accepted-before {id} {b} p = record { byte = p .byte; bytes = p .bytes; reads = tested-got (tested-read (layout id) b (fine-layout id)) (p .reads) }
+
+-- what was accepted before is accepted now, with the same fields, or is refused for an extension above 299
+pub still-accepted : {id : ℕ} {b : List ℕ} {t : Table} → AcceptedBefore id b t → Still (bodyRead id b) t []
+still-accepted {id} {b} p = tested-still (tested-read (layout id) b (fine-layout id)) (p .reads)
+
+fine-then : (id : ℕ) → FineLayout (layoutBefore (layout id))
+fine-then id = fine-before-layout (layout id) (fine-layout id)
+
+-- ---- an accepted body, and its plain and kept body; x: accepted in any sense
 
 -- the kept body is no longer than the body, and that is not over 4096 bytes
-pub accepted-good : {id : ℕ} {b : List ℕ} {t : Table} → Accepted id b t → GoodTable (layout id) t × (length (keptOf t) ≤ length b) × (length b ≤ 4096)
-unfolding bodyRead
-accepted-good {id} {b} {t} p =
+pub accepted-good : {l : Layout} {id : ℕ} {b : List ℕ} {t : Table} → FineLayout l → AcceptedAs l id b t → GoodTable l t × (length (keptOf t) ≤ length b) × (length b ≤ 4096)
+unfolding bodyReadAs
+accepted-good {l} {id} {b} {t} x p =
     let q = cond-got (leb (length b) 4096) _ _ _ _ (p .reads) in
-    let r = read-good (layout id) b t (fine-layout id) (p .bytes) (q .1) in
+    let r = read-good l b t x (p .bytes) (q .1) in
     (r .0, r .1, leb-true (length b) 4096 (q .0))
 
 -- good fields that are not too long are those of their kept body
-good-accepted : (id : ℕ) {t : Table} → id < 256 → GoodTable (layout id) t → length (keptOf t) ≤ 4096 → Accepted id (keptOf t) t
-unfolding bodyRead
-good-accepted id {t} h g m =
+good-accepted : (l : Layout) (id : ℕ) {t : Table} → FineLayout l → id < 256 → GoodTable l t → length (keptOf t) ≤ 4096 → AcceptedAs l id (keptOf t) t
+unfolding bodyReadAs
+good-accepted l id {t} x h g m =
     record {
       byte = h;
       bytes = kept-bytes g;
-      reads = rw (le-leb (length (keptOf t)) 4096 m, read-kept (fine-layout id) g m);
+      reads = rw (le-leb (length (keptOf t)) 4096 m, read-kept x g m);
     }
 
 -- an edition's body is accepted, and has the fields that come back through that edition, hence the same ledger and
 -- itself for its body
-pub body-again : {id : ℕ} {b : List ℕ} {t : Table} (ed : Edition) → Accepted id b t → Accepted id (bodyOf ed t) (formOf ed t)
-body-again {id} {t = t} ed p =
-    let g = accepted-good p in
+pub body-again : {l : Layout} {id : ℕ} {b : List ℕ} {t : Table} (ed : Edition) → FineLayout l → AcceptedAs l id b t → AcceptedAs l id (bodyOf ed t) (formOf ed t)
+body-again {l} {id} {t = t} ed x p =
+    let g = accepted-good x p in
     let k = kept-formOf ed t in
     let m : length (keptOf (formOf ed t)) ≤ 4096 = rw k (omega (arith, body-short ed t)) in
-    rw k at (good-accepted id (p .byte) (good-formOf ed (fine-layout id) (g .0)) m)
+    rw k at (good-accepted l id x (p .byte) (good-formOf ed x (g .0)) m)
 
 pub ledger-formOf : (ed : Edition) (id : ℕ) (t : Table) → ledgerOf ed id (formOf ed t) ≡ ledgerOf ed id t
 unfolding ledgerOf
 ledger-formOf ed id t = rw (content-formOf ed t)
 
 -- a ledger has at most 6 + 2 n bytes
-pub ledger-length : {id : ℕ} {b : List ℕ} {t : Table} (ed : Edition) → Accepted id b t → length (ledgerOf ed id t) ≤ 6 + 2 * length b
+pub ledger-length : {l : Layout} {id : ℕ} {b : List ℕ} {t : Table} (ed : Edition) → FineLayout l → AcceptedAs l id b t → length (ledgerOf ed id t) ≤ 6 + 2 * length b
 unfolding ledgerOf
-ledger-length {id} {b} {t} ed p =
-    let g = accepted-good p in
+ledger-length {l} {id} {b} {t} ed x p =
+    let g = accepted-good x p in
     omega (
       arith,
-      content-length ed (fine-layout id) (g .0),
+      content-length ed x (g .0),
       length-append (digits 256 2 (length (contentOf ed t) + 2)) (version ed ∷ id ∷ contentOf ed t),
       length-digits 256 2 (length (contentOf ed t) + 2),
     )
@@ -153,11 +167,13 @@ front ed c id h =
     its edition-2 = refl
 
 -- it is read, and gives the fields as far as its edition has them, and so the edition's body
-pub ledger-again : {id : ℕ} {b : List ℕ} {t : Table} (ed : Edition) → Accepted id b t → ledgerRead (ledgerOf ed id t) ≡ got (formOf ed t) []
+pub ledger-again : {id : ℕ} {b : List ℕ} {t : Table} (ed : Edition) → AcceptedBefore id b t → ledgerRead (ledgerOf ed id t) ≡ got (formOf ed t) []
 unfolding ledgerRead ledgerOf
 ledger-again {id} {b} {t} ed p =
-    let g = accepted-good p in
-    let f = front ed (contentOf ed t) id (omega (arith, content-length ed (fine-layout id) (g .0))) in
+    let x : FineLayout (layoutBefore (layout id)) = fine-then id in
+    let g = accepted-good x p in
+    let f = front ed (contentOf ed t) id (omega (arith, content-length ed x (g .0))) in
+    let n : ℕ = length (digits 256 2 (length (contentOf ed t) + 2) ++ (version ed ∷ id ∷ contentOf ed t)) in
     rw (
       f .four,
       f .long,
@@ -165,7 +181,7 @@ ledger-again {id} {b} {t} ed p =
       f .edition,
       f .table,
       f .rest,
-      content-again ed (length (digits 256 2 (length (contentOf ed t) + 2) ++ (version ed ∷ id ∷ contentOf ed t))) (fine-layout id) (g .0) (omega arith),
+      sym (content-before ed n (layout id) (contentOf ed t)) ∙ content-again ed n x (g .0) (omega arith),
       body-formOf ed t,
       le-leb (length (bodyOf ed t)) 4096 (omega (arith, body-short ed t)),
     )
@@ -179,8 +195,8 @@ cut (a ∷ b ∷ []) h = absurd (omega arith)
 cut (a ∷ b ∷ c ∷ []) h = absurd (omega arith)
 cut (a ∷ b ∷ c ∷ d ∷ l) h = refl
 
--- it is the ledger, in its edition, of its id and of the body that comes back, which are accepted
-pub read-accepted : (l : List ℕ) (t : Table) → Below 256 l → ledgerRead l ≡ got t [] → Accepted (idOf l) (bodyOf (editionOf l) t) t × (ledgerOf (editionOf l) (idOf l) t ≡ l)
+-- it is the ledger, in its edition, of its id and of the body that comes back, which were accepted before
+pub read-accepted : (l : List ℕ) (t : Table) → Below 256 l → ledgerRead l ≡ got t [] → AcceptedBefore (idOf l) (bodyOf (editionOf l) t) t × (ledgerOf (editionOf l) (idOf l) t ≡ l)
 unfolding ledgerOf
 read-accepted l t h e =
     let ed : Edition = editionOf l in
@@ -190,14 +206,14 @@ read-accepted l t h e =
     let hv : value 256 (take 2 l) ≡ length l - 2 = p .long in
     let k : keptOf t ≡ bodyOf ed t = ap keptOf (sym (g .same)) ∙ kept-formOf ed t in
     let lc : length (contentOf ed t) + 2 ≡ value 256 (take 2 l) = ap (λ (x : List ℕ). length x + 2) (g .back) ∙ omega (arith, length-drop 4 l) in (
-      rw k at (good-accepted (idOf l) (digit-in 256 l 3 (omega arith) h) (g .good) (rw k (p .size))),
+      rw k at (good-accepted (layoutBefore (layout (idOf l))) (idOf l) (fine-then (idOf l)) (digit-in 256 l 3 (omega arith) h) (g .good) (rw k (p .size))),
       rw (lc, digits-take 256 2 l h (omega arith), g .back, p .edition) (sym (cut l h4)),
     )
 
 -- ---- the demand
 
 -- two accepted pairs share a ledger of an edition exactly when they have the same id and the same body of that edition
-pub same-ledger : {id id′ : ℕ} {b b′ : List ℕ} {t t′ : Table} (ed : Edition) → Accepted id b t → Accepted id′ b′ t′
+pub same-ledger : {id id′ : ℕ} {b b′ : List ℕ} {t t′ : Table} (ed : Edition) → AcceptedBefore id b t → AcceptedBefore id′ b′ t′
     → (ledgerOf ed id t ≡ ledgerOf ed id′ t′) ↔ ((id ≡ id′) × (bodyOf ed t ≡ bodyOf ed t′))
 same-ledger {id} {id′} {t = t} {t′ = t′} ed p p′ = (one-way, other)
   where
@@ -213,19 +229,22 @@ same-ledger {id} {id′} {t = t} {t′ = t′} ed p p′ = (one-way, other)
     other : (id ≡ id′) × (bodyOf ed t ≡ bodyOf ed t′) → ledgerOf ed id t ≡ ledgerOf ed id′ t′
     other e =
         sym (ledger-formOf ed id t)
-        ∙ ap₂ (ledgerOf ed) (e .0) (inj (sym (body-again ed p .reads) ∙ ap₂ bodyRead (e .0) (e .1) ∙ body-again ed p′ .reads))
+        ∙ ap₂ (ledgerOf ed) (e .0) (inj (sym (body-again ed (fine-then id) p .reads) ∙ ap₂ (λ (i : ℕ) (b : List ℕ). bodyReadAs (layoutBefore (layout i)) b) (e .0) (e .1) ∙ body-again ed (fine-then id′) p′ .reads))
         ∙ ledger-formOf ed id′ t′
 
--- "the ledger of a pair", of a table id and an accepted body, in an edition
-pub record IsLedger (ed : Edition) (l : List ℕ) : Type 0 where
+-- "the ledger of a pair", of a table id and an accepted body, in an edition; A: accepted now, or before
+pub record IsLedger (A : ℕ → List ℕ → Table → Type 0) (ed : Edition) (l : List ℕ) : Type 0 where
   pub id : ℕ
   pub body : List ℕ
   pub table : Table
-  pub accepted : Accepted id body table
+  pub accepted : A id body table
   pub is : ledgerOf ed id table ≡ l
 
+pub ledger-before : {ed : Edition} {l : List ℕ} → IsLedger Accepted ed l → IsLedger AcceptedBefore ed l
+ledger-before r = record { id = r .id; body = r .body; table = r .table; accepted = accepted-before (r .accepted); is = r .is }
+
 -- a byte string is read exactly if it is the ledger of some pair in one of the editions
-pub ledger-exactly : (l : List ℕ) → Below 256 l → ((t : Table) × (ledgerRead l ≡ got t [])) ↔ ((ed : Edition) × IsLedger ed l)
+pub ledger-exactly : (l : List ℕ) → Below 256 l → ((t : Table) × (ledgerRead l ≡ got t [])) ↔ ((ed : Edition) × IsLedger AcceptedBefore ed l)
 ledger-exactly l h = (
   λ r.
       let o = read-accepted l (r .0) h (r .1) in

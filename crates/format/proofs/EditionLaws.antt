@@ -12,10 +12,10 @@ use Rattle.format.specs.Tables.{times, obsolescent, new, delivery, posit
 use Rattle.format.specs.Ledger.{ledger}
 use Rattle.format.specs.Whole.{Layout, sole, many, opaque, layout, Table, ledgers, contentOf, ledgerOf}
 use Rattle.format.specs.Calls.{Wrote}
-use Rattle.format.proofs.Good.{Good, g-end, g-field, g-yes, g-no, g-need, g-slots, g-plan, g-raw, NoPlan}
+use Rattle.format.proofs.Good.{Good, g-end, g-field, g-yes, g-no, g-need, g-most, g-slots, g-plan, g-raw, NoPlan}
 use Rattle.format.proofs.FineTables.{planless-header}
 use Rattle.format.proofs.EntryLaws.{AllGood}
-use Rattle.format.proofs.TableLaws.{GoodTable, good-one, good-list, good-raw}
+use Rattle.format.proofs.TableLaws.{fine-layout, GoodTable, good-one, good-list, good-raw}
 use Rattle.format.proofs.Demand.{accepted-good}
 use Rattle.format.proofs.CallLaws.{wrote-accepted}
 
@@ -28,6 +28,7 @@ ledger-same ed p (g-field g nm w k v _ _ r) = rw (ledger-same ed (p v) r)
 ledger-same ed p (g-yes r) = ledger-same ed (p .0) r
 ledger-same ed p (g-no r) = ledger-same ed (p .1) r
 ledger-same ed p (g-need a w _ r) = ledger-same ed p r
+ledger-same ed p (g-most a v m _ r) = ledger-same ed p r
 ledger-same ed p (g-slots nm a m bs _ _ r) = rw (ledger-same ed p r)
 ledger-same ed p (g-plan nm v fs _ r) = absurd p
 ledger-same ed p (g-raw nm bs _ _) = refl
@@ -115,5 +116,5 @@ other-ids {id} {b} {l = l} {l′} h hi hb w w′ =
     let t′ : Table = o′ .0 in
     let e : got t [] ≡ got t′ [] = sym (o .1 .reads) ∙ o′ .1 .reads in
     let s : t ≡ t′ = cc in
-    let c : contentOf edition-2 t′ ≡ contentOf edition-1 t = ap (contentOf edition-2) (sym s) ∙ content-same edition-2 (planless-layout id h) (accepted-good (o .1) .0) in
+    let c : contentOf edition-2 t′ ≡ contentOf edition-1 t = ap (contentOf edition-2) (sym s) ∙ content-same edition-2 (planless-layout id h) (accepted-good (fine-layout id) (o .1) .0) in
     (rw (← o .2, ← o′ .2, c), rw (← o .2, ← o′ .2, c))

@@ -84,6 +84,7 @@ flat-plain t (Good.g-field g nm w k v {ts} _ _ r) us = rw (flat-plain t r us, �
 flat-plain t (Good.g-yes r) us = flat-plain t r us
 flat-plain t (Good.g-no r) us = flat-plain t r us
 flat-plain t (Good.g-need a w _ r) us = flat-plain t r us
+flat-plain t (Good.g-most a v m _ r) us = flat-plain t r us
 flat-plain t (Good.g-slots nm a m bs {ts} _ _ r) us = rw (flat-plain t r us, ← append-assoc)
 flat-plain t (Good.g-plan nm v fs _ r) us = absurd t
 flat-plain t (Good.g-raw nm bs _ _) us = rw (append-nil bs)
@@ -95,6 +96,7 @@ flat-form ed t (Good.g-field g nm w k v _ _ r) us = ap (λ (x : List Field). num
 flat-form ed t (Good.g-yes r) us = flat-form ed t r us
 flat-form ed t (Good.g-no r) us = flat-form ed t r us
 flat-form ed t (Good.g-need a w _ r) us = flat-form ed t r us
+flat-form ed t (Good.g-most a v m _ r) us = flat-form ed t r us
 flat-form ed t (Good.g-slots nm a m bs _ _ r) us = ap (λ (x : List Field). flags nm bs ∷ x) (flat-form ed t r us)
 flat-form ed t (Good.g-plan nm v fs _ r) us = absurd t
 flat-form ed t (Good.g-raw nm bs _ _) us = refl
@@ -138,6 +140,7 @@ good-form ed b c (Good.g-field g nm w k v h e r) f = Good.g-field g nm w k v h e
 good-form ed b c (Good.g-yes r) f = Good.g-yes (good-form ed b c r (f .0))
 good-form ed b c (Good.g-no r) f = Good.g-no (good-form ed b c r (f .1))
 good-form ed b c (Good.g-need a w h r) f = let r′ = good-form ed b c r (f .2) in Good.g-need a w (Good.least w r′ (f .1)) r′
+good-form ed b c (Good.g-most a v m h r) f = Good.g-most a v m h (good-form ed b c r (f .2))
 good-form ed b c (Good.g-slots nm a m bs e h r) f = Good.g-slots nm a m bs e h (good-form ed b c r (f .2))
 good-form edition-1 b c (Good.g-plan nm v fs {k} {ts} e r) f =
     rw (form-planned edition-1 nm v fs r) (Good.g-plan nm (length (kept ts) / 8) [] (exact-ending ts (e .fields)) r)

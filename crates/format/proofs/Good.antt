@@ -10,7 +10,7 @@ use lib.Dec.{T, leb, ltb, eqb, leb→le, le→leb}
 use lib.ListN.{length, replicate, length-append, length-replicate}
 use borrow.Author.Tests.{eq-eqb, ne-eqb, eqb-true, lt-ltb, ltb-true}
 use Rattle.format.specs.Digits.{digits, Below, bytesOf}
-use Rattle.format.specs.Syntax.{Name, Sign, unsigned, signed, Syntax, end, field, when, need, slots, plan, raw, Field, num, flags, bytes, len, filler, Edition, edition-1, edition-2, added}
+use Rattle.format.specs.Syntax.{Name, Sign, unsigned, signed, Syntax, end, field, when, need, atMost, slots, plan, raw, before, Field, num, flags, bytes, len, filler, Edition, edition-1, edition-2, added}
 use Rattle.format.specs.Body.{wholes, planned, padded, laid, plain, kept}
 use Rattle.format.specs.Ledger.{size, countedBytes, ledger, rawLeft, leaves}
 use Rattle.format.proofs.DigitLaws.{length-digits, length-bytes, below-append, digits-below, zeros-below}
@@ -78,6 +78,7 @@ pub data Good (l : Bool) : Bool → Syntax → List Field → Type 0 where
   g-yes : {i : Bool} {k m : Syntax} {ts : List Field} → Good l i k ts → Good l i (when true k m) ts
   g-no : {i : Bool} {k m : Syntax} {ts : List Field} → Good l i m ts → Good l i (when false k m) ts
   g-need : {i : Bool} (a w : ℕ) {k : Syntax} {ts : List Field} → w ≤ length (kept ts) → Good l i k ts → Good l i (need a w k) ts
+  g-most : {i : Bool} (a v m : ℕ) {k : Syntax} {ts : List Field} → v ≤ m → Good l i k ts → Good l i (atMost a v m k) ts
   g-slots : {i : Bool} (nm : Name) (a m : ℕ) (bs : List ℕ) {k : Syntax} {ts : List Field} → length bs ≡ m → Below 2 bs → Good l i k ts → Good l i (slots nm a m k) (flags nm bs ∷ ts)
   g-plan : (nm : Name) (v : ℕ) (fs : List ℕ) {k : Syntax} {ts : List Field} → Ending l v fs ts → Good l true k ts → Good l false (plan nm k) (planned nm v ts fs)
   g-raw : (nm : Name) (bs : List ℕ) → Below 2 bs → length bs % 8 ≡ 0 → Good l true (raw nm) (bytes nm bs ∷ [])
@@ -192,6 +193,7 @@ kept-below (g-field g nm w k v {ts} _ h r) = below-append 2 (digits 2 w v) (kept
 kept-below (g-yes r) = kept-below r
 kept-below (g-no r) = kept-below r
 kept-below (g-need a w _ r) = kept-below r
+kept-below (g-most a v m _ r) = kept-below r
 kept-below (g-slots nm a m bs {ts} _ h r) =
     let z : ℕ = 8 * wholes (length bs) - length bs in
     below-append 2 (padded bs) (kept ts) (below-append 2 bs (replicate z 0) h (zeros-below z)) (kept-below r)
@@ -207,6 +209,7 @@ Least m end = T (leb m 0)
 Least m (field g nm w k) = (v : ℕ) → Least (m - w) (k v)
 Least m (when t k l) = Least m k × Least m l
 Least m (need a w k) = Least m k
+Least m (atMost a v j k) = Least m k
 Least m (slots nm a j k) = Least (m - 8 * wholes j) k
 Least m (plan nm k) = Least (m - 12) k
 Least m (raw nm) = T (leb m 0)
@@ -216,6 +219,7 @@ least-zero end = tt
 least-zero (field g nm w k) = λ v. rw zero-sub (least-zero (k v))
 least-zero (when t k l) = (least-zero k, least-zero l)
 least-zero (need a w k) = least-zero k
+least-zero (atMost a v j k) = least-zero k
 least-zero (slots nm a j k) = rw zero-sub (least-zero k)
 least-zero (plan nm k) = least-zero k
 least-zero (raw nm) = tt
@@ -226,6 +230,7 @@ least m (g-field g nm w k v {ts} _ _ r) h = omega (arith, laid-num edition-2 g n
 least m (g-yes r) h = least m r (h .0)
 least m (g-no r) h = least m r (h .1)
 least m (g-need a w _ r) h = least m r h
+least m (g-most a v j _ r) h = least m r h
 least m (g-slots nm a j bs {ts} e _ r) h = omega (arith, laid-flags edition-2 nm bs ts, ap wholes e, least (m - 8 * wholes j) r h)
 least m (g-plan nm v fs {ts} _ r) h = omega (arith, kept-planned nm v ts fs, least (m - 12) r h)
 least m (g-raw nm bs _ _) h = omega (arith, leb→le m 0 h)
@@ -237,6 +242,7 @@ NoPlan end = Unit {0}
 NoPlan (field g nm w k) = (v : ℕ) → NoPlan (k v)
 NoPlan (when t k l) = NoPlan k × NoPlan l
 NoPlan (need a w k) = NoPlan k
+NoPlan (atMost a v j k) = NoPlan k
 NoPlan (slots nm a j k) = NoPlan k
 NoPlan (plan nm k) = ⊥
 NoPlan (raw nm) = Unit {0}
@@ -247,21 +253,23 @@ planless m p (g-field g nm w k v h e r) = g-field g nm w k v h e (planless m (p 
 planless m p (g-yes r) = g-yes (planless m (p .0) r)
 planless m p (g-no r) = g-no (planless m (p .1) r)
 planless m p (g-need a w h r) = g-need a w h (planless m p r)
+planless m p (g-most a v j h r) = g-most a v j h (planless m p r)
 planless m p (g-slots nm a j bs e h r) = g-slots nm a j bs e h (planless m p r)
 planless m p (g-plan nm v fs e r) = absurd p
 planless m p (g-raw nm bs h a) = g-raw nm bs h a
 
 -- ---- what is asked of a description
 
--- Widths are ones that a ledger has; refusals have numbers; what `need` asks for follows; slots and raw bytes start on
--- a byte and an entry ends on one; no plan stands in a plan; a ledger takes at most a byte for four bits, also with a
--- plan's length and the filler's count.
+-- Widths are ones that a ledger has; refusals have numbers; tests are those of extensions; what `need` asks for
+-- follows; slots and raw bytes start on a byte and an entry ends on one; no plan stands in a plan; a ledger takes at most
+-- a byte for four bits, also with a plan's length and the filler's count.
 -- b: the bits before, from a place that starts a byte; c: their bytes in the ledger
 abbrev pub Fine : Bool → ℕ → ℕ → Syntax → Type 0
 Fine i b c end = (b % 8 ≡ 0) × T (leb (4 * c) b)
 Fine i b c (field g nm w k) = T (leb w (widest g)) × ((v : ℕ) → Fine i (b + w) (c + size g w) (k v))
 Fine i b c (when t k l) = Fine i b c k × Fine i b c l
 Fine i b c (need a w k) = T (ltb 0 a) × Least w k × Fine i b c k
+Fine i b c (atMost a v m k) = (a ≡ 30) × (m ≡ 299) × Fine i b c k
 Fine i b c (slots nm a m k) = T (ltb 0 a) × (b % 8 ≡ 0) × Fine i b c k
 Fine i b c (plan nm k) = (T i → ⊥) × ((b + 12) % 8 ≡ 0) × Fine true (b + 12) (c + 4) k
 Fine i b c (raw nm) = T i × (b % 8 ≡ 0) × T (leb (4 * (c + 2)) b)
@@ -273,6 +281,7 @@ fine-more i b c b′ c′ (field g nm w k) e l f =
     (f .0, λ v. fine-more i (b + w) (c + size g w) (b′ + w) (c′ + size g w) (k v) (omega arith) (omega arith) (f .1 v))
 fine-more i b c b′ c′ (when t x y) e l f = (fine-more i b c b′ c′ x e l (f .0), fine-more i b c b′ c′ y e l (f .1))
 fine-more i b c b′ c′ (need a w k) e l f = (f .0, f .1, fine-more i b c b′ c′ k e l (f .2))
+fine-more i b c b′ c′ (atMost a v m k) e l f = (f .0, f .1, fine-more i b c b′ c′ k e l (f .2))
 fine-more i b c b′ c′ (slots nm a m k) e l f = (f .0, sym e ∙ f .1, fine-more i b c b′ c′ k e l (f .2))
 fine-more i b c b′ c′ (plan nm k) e l f = (f .0, omega (arith, f .1), fine-more true (b + 12) (c + 4) (b′ + 12) (c′ + 4) k (omega arith) (omega arith) (f .2))
 fine-more i b c b′ c′ (raw nm) e l f = (f .0, sym e ∙ f .1, le→leb (4 * (c′ + 2)) b′ (omega (arith, leb→le (4 * (c + 2)) b (f .2))))
@@ -288,6 +297,7 @@ whole ed b c (g-field g nm w k v {ts} _ _ r) f =
 whole ed b c (g-yes r) f = whole ed b c r (f .0)
 whole ed b c (g-no r) f = whole ed b c r (f .1)
 whole ed b c (g-need a w _ r) f = whole ed b c r (f .2)
+whole ed b c (g-most a v m _ r) f = whole ed b c r (f .2)
 whole ed b c (g-slots nm a m bs {ts} _ _ r) f =
     let o = whole ed b c r (f .2) in
     (omega (arith, laid-flags edition-2 nm bs ts), simp (length-append, length-bytes) (omega (arith, laid-flags edition-2 nm bs ts)))
@@ -298,3 +308,35 @@ whole ed b c (g-plan nm v fs {ts} e r) f =
 whole ed b c (g-raw nm bs _ a) f =
     let p : length (kept (bytes nm bs ∷ [])) ≡ length bs + 0 = laid-bytes edition-2 nm bs [] ∙ ap (λ (k : ℕ). length bs + k) (laid-nil edition-2) in
     (omega (arith, f .1), simp (length-append, length-digits, length-bytes) (omega (arith, leb→le (4 * (c + 2)) b (f .2))))
+
+-- ---- a description before it had its tests is as fine
+
+pub least-before : (m : ℕ) (s : Syntax) → Least m s → Least m (before s)
+least-before m end h = h
+least-before m (field g nm w k) h = λ v. least-before (m - w) (k v) (h v)
+least-before m (when t k l) h = (least-before m k (h .0), least-before m l (h .1))
+least-before m (need a w k) h = least-before m k h
+least-before m (atMost a v j k) h = least-before m k h
+least-before m (slots nm a j k) h = least-before (m - 8 * wholes j) k h
+least-before m (plan nm k) h = least-before (m - 12) k h
+least-before m (raw nm) h = h
+
+pub fine-before : (i : Bool) (b c : ℕ) (s : Syntax) → Fine i b c s → Fine i b c (before s)
+fine-before i b c end f = f
+fine-before i b c (field g nm w k) f = (f .0, λ v. fine-before i (b + w) (c + size g w) (k v) (f .1 v))
+fine-before i b c (when t k l) f = (fine-before i b c k (f .0), fine-before i b c l (f .1))
+fine-before i b c (need a w k) f = (f .0, least-before w k (f .1), fine-before i b c k (f .2))
+fine-before i b c (atMost a v m k) f = fine-before i b c k (f .2)
+fine-before i b c (slots nm a m k) f = (f .0, f .1, fine-before i b c k (f .2))
+fine-before i b c (plan nm k) f = (f .0, f .1, fine-before true (b + 12) (c + 4) k (f .2))
+fine-before i b c (raw nm) f = f
+
+pub planless-before : (s : Syntax) → NoPlan s → NoPlan (before s)
+planless-before end p = p
+planless-before (field g nm w k) p = λ v. planless-before (k v) (p v)
+planless-before (when t k l) p = (planless-before k (p .0), planless-before l (p .1))
+planless-before (need a w k) p = planless-before k p
+planless-before (atMost a v m k) p = planless-before k p
+planless-before (slots nm a m k) p = planless-before k p
+planless-before (plan nm k) p = p
+planless-before (raw nm) p = p

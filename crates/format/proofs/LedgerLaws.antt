@@ -12,7 +12,7 @@ use lib.Pow.{pow-mono, pow-pos, high-ones}
 use lib.Seq.{take-at, drop-at, length-take-le, drop-append-seam, take-append-seam}
 use borrow.Author.Tests.{leb-true, eq-eqb, eqb-true}
 use Rattle.format.specs.Digits.{digits, value, Below, bitsOf, bytesOf}
-use Rattle.format.specs.Syntax.{Name, Sign, unsigned, signed, Syntax, end, field, when, need, slots, plan, raw, Field, num, flags, bytes, Edition, edition-1, edition-2, Parse, got, refused, andThen, push}
+use Rattle.format.specs.Syntax.{Name, Sign, unsigned, signed, Syntax, end, field, when, need, atMost, slots, plan, raw, before, Field, num, flags, bytes, Edition, edition-1, edition-2, Parse, got, refused, andThen, push}
 use Rattle.format.specs.Body.{wholes, planned, padded, plain, kept}
 use Rattle.format.specs.Ledger.{size, widened, countedBytes, ledger, grant, readCountedBytes, leaves, readFiller, readLedger}
 use Rattle.format.proofs.DigitLaws.{length-digits, value-digits, digits-take, below-take, below-drop, below-append, bits-bytes, length-bytes, bytes-bits, length-bits, bits-below, zeros-below, value-zeros, value-zero, has-at, back-of}
@@ -194,6 +194,7 @@ module _ (ed : Edition) (n : ℕ) where
   relet rest (Good.g-yes r) m = relet rest r m
   relet rest (Good.g-no r) m = relet rest r m
   relet rest (Good.g-need a w h r) m = relet rest r m
+  relet rest (Good.g-most a v j h r) m = relet rest r m
   relet rest (Good.g-slots nm a j bs {ts} c h r) m =
       let q : ℕ = wholes (length bs) in
       let z : List ℕ = replicate (8 * q - length bs) 0 in
@@ -219,7 +220,31 @@ module _ (ed : Edition) (n : ℕ) where
   relet rest (Good.g-raw nm bs h a) m =
       rw (append-nil (countedBytes bs)) (count-again n bs rest (λ xs r. got (bytes nm xs ∷ []) r) h a (omega (arith, m, Good.laid-bytes edition-2 nm bs [])))
 
--- ---- what is read is good, and was written so
+-- ---- tests make no difference to the reading
+
+pub read-before : (ed : Edition) (l : Bool) (n : ℕ) (s : Syntax) (bs : List ℕ) → readLedger ed l n (before s) bs ≡ readLedger ed l n s bs
+unfolding readLedger
+read-before ed l n end bs = refl
+read-before ed l n (field g nm w k) bs =
+    let x : ℕ = value 256 (take (size g w) bs) in
+    let v : ℕ = x % 2 ^ w in
+    ap (λ (p : Parse (List Field)). grant n (size g w) (eqb (widened g w v) x) bs (push (num g nm w v) p)) (read-before ed l n (k v) (drop (size g w) bs))
+read-before ed l n (when true y z) bs = read-before ed l n y bs
+read-before ed l n (when false y z) bs = read-before ed l n z bs
+read-before ed l n (need a w k) bs = read-before ed l n k bs
+read-before ed l n (atMost a v m k) bs = read-before ed l n k bs
+read-before ed l n (slots nm a m k) bs =
+    let packed : List ℕ = bitsOf (take (wholes m) bs) in
+    ap (λ (p : Parse (List Field)). grant n (wholes m) (eqb (value 2 (drop m packed)) 0) bs (push (flags nm (take m packed)) p)) (read-before ed l n k (drop (wholes m) bs))
+read-before edition-1 l n (plan nm k) bs =
+    ap (λ (p : Parse (List Field)). andThen p (λ ts rest. got (planned nm (length (plain ts) / 8) ts []) rest)) (read-before edition-1 l n k bs)
+read-before edition-2 l n (plan nm k) bs =
+    let x : ℕ = value 256 (take 2 bs) in
+    let v : ℕ = x % 2 ^ 12 in
+    ap (λ (p : Parse (List Field)). grant n 2 (eqb v x) bs (andThen p (λ ts rest. readFiller l n nm v ts rest))) (read-before edition-2 l n k (drop 2 bs))
+read-before ed l n (raw nm) bs = refl
+
+-- ---- what is read is good but for the tests, and was written so
 
 pub record Found (ed : Edition) (l i : Bool) (s : Syntax) (bs : List ℕ) (ts : List Field) (rest : List ℕ) : Type 0 where
   pub good : Good.Good l i s ts
@@ -283,7 +308,7 @@ module _ (n : ℕ) where
       })
 
   pub found : (ed : Edition) (l i : Bool) (b c : ℕ) (s : Syntax) (bs : List ℕ) {ts : List Field} {rest : List ℕ} → Good.Fine i b c s → Below 256 bs
-      → readLedger ed l n s bs ≡ got ts rest → Found ed l i s bs ts rest
+      → readLedger ed l n s bs ≡ got ts rest → Found ed l i (before s) bs ts rest
   unfolding readLedger ledger form
   found ed l i b c end bs {ts} {rest} f h e =
       let q1 : ts ≡ [] = cc in
@@ -295,9 +320,9 @@ module _ (n : ℕ) where
       let v : ℕ = x % 2 ^ w in
       let p = grant-got n q (eqb (widened g w v) x) bs (push (num g nm w v) (readLedger ed l n (k v) (drop q bs))) e in
       let o = push-got (num g nm w v) (readLedger ed l n (k v) (drop q bs)) (p .2) in
-      let r : Found ed l i (k v) (drop q bs) (o .0) rest = found ed l i (b + w) (c + q) (k v) (drop q bs) (f .1 v) (below-drop 256 q bs h) (o .1) in
+      let r : Found ed l i (before (k v)) (drop q bs) (o .0) rest = found ed l i (b + w) (c + q) (k v) (drop q bs) (f .1 v) (below-drop 256 q bs h) (o .1) in
       rw (o .2) (record {
-        good = Good.g-field g nm w k v (f .0) (mod-lt x (pow-pos w)) (r .good);
+        good = Good.g-field g nm w (λ u. before (k u)) v (f .0) (mod-lt x (pow-pos w)) (r .good);
         same = ap (λ (us : List Field). num g nm w v ∷ us) (r .same);
         back = back-of q (digits 256 q (widened g w v)) (ledger ed (o .0)) rest bs (ap (digits 256 q) (eqb-true (widened g w v) x (p .1)) ∙ digits-take 256 q bs h (p .0)) (r .back);
         below = r .below;
@@ -306,14 +331,15 @@ module _ (n : ℕ) where
   found ed l i b c (when false y z) bs f h e = let r = found ed l i b c z bs (f .1) h e in record { good = Good.g-no (r .good); same = r .same; back = r .back; below = r .below }
   found ed l i b c (need a w k) bs f h e =
       let r = found ed l i b c k bs (f .2) h e in
-      record { good = Good.g-need a w (Good.least w (r .good) (f .1)) (r .good); same = r .same; back = r .back; below = r .below }
+      record { good = Good.g-need a w (Good.least w (r .good) (Good.least-before w k (f .1))) (r .good); same = r .same; back = r .back; below = r .below }
+  found ed l i b c (atMost a v m k) bs f h e = found ed l i b c k bs (f .2) h e
   found ed l i b c (slots nm a m k) bs {ts} {rest} f h e =
       let q : ℕ = wholes m in
       let ys : List ℕ = take q bs in
       let fs : List ℕ = take m (bitsOf ys) in
       let p = grant-got n q (eqb (value 2 (drop m (bitsOf ys))) 0) bs (push (flags nm fs) (readLedger ed l n k (drop q bs))) e in
       let o = push-got (flags nm fs) (readLedger ed l n k (drop q bs)) (p .2) in
-      let r : Found ed l i k (drop q bs) (o .0) rest = found ed l i b c k (drop q bs) (f .2) (below-drop 256 q bs h) (o .1) in
+      let r : Found ed l i (before k) (drop q bs) (o .0) rest = found ed l i b c k (drop q bs) (f .2) (below-drop 256 q bs h) (o .1) in
       let s : (length fs ≡ m) × (bytesOf q (fs ++ replicate (8 * q - m) 0) ≡ ys) =
       slots-back m ys (below-take 256 q bs h) (length-take-le q bs (p .0)) (eqb-true (value 2 (drop m (bitsOf ys))) 0 (p .1)) in
       rw (o .2) (record {
@@ -327,8 +353,8 @@ module _ (n : ℕ) where
       let us : List Field = o .0 in
       let q : got (planned nm (length (plain us) / 8) us []) (o .1) ≡ got ts rest = o .3 in
       let z : o .1 ≡ rest = cc in
-      let r : Found edition-1 l true k bs us rest = found edition-1 l true (b + 12) (c + 4) k bs (f .2) h (rw z at (o .2)) in
-      found-1 l i nm k (f .0) (omega (arith, f .1, Good.whole edition-1 (b + 12) (c + 4) (r .good) (f .2))) (cc) r
+      let r : Found edition-1 l true (before k) bs us rest = found edition-1 l true (b + 12) (c + 4) k bs (f .2) h (rw z at (o .2)) in
+      found-1 l i nm (before k) (f .0) (omega (arith, f .1, Good.whole edition-1 (b + 12) (c + 4) (r .good) (Good.fine-before true (b + 12) (c + 4) k (f .2)))) (cc) r
   found edition-2 l i b c (plan nm k) bs {ts} {rest} f h e =
       let x : ℕ = value 256 (take 2 bs) in
       let v : ℕ = x % 2 ^ 12 in
@@ -336,10 +362,10 @@ module _ (n : ℕ) where
       let p = grant-got n 2 (eqb v x) bs (andThen (readLedger edition-2 l n k (drop 2 bs)) go-on) e in
       let o = then-got (readLedger edition-2 l n k (drop 2 bs)) go-on (p .2) in
       let us : List Field = o .0 in
-      let r : Found edition-2 l true k (drop 2 bs) us (o .1) = found edition-2 l true (b + 12) (c + 4) k (drop 2 bs) (f .2) (below-drop 256 2 bs h) (o .2) in
-      let y = filler-got l nm v us (o .1) (mod-lt x (pow-pos 12)) (omega (arith, f .1, Good.whole edition-2 (b + 12) (c + 4) (r .good) (f .2))) (r .below) (o .3) in
+      let r : Found edition-2 l true (before k) (drop 2 bs) us (o .1) = found edition-2 l true (b + 12) (c + 4) k (drop 2 bs) (f .2) (below-drop 256 2 bs h) (o .2) in
+      let y = filler-got l nm v us (o .1) (mod-lt x (pow-pos 12)) (omega (arith, f .1, Good.whole edition-2 (b + 12) (c + 4) (r .good) (Good.fine-before true (b + 12) (c + 4) k (f .2)))) (r .below) (o .3) in
       let d : digits 256 2 v ≡ take 2 bs = ap (digits 256 2) (eqb-true v x (p .1)) ∙ digits-take 256 2 bs h (p .0) in
-      found-2 l i nm k v (y .0) (f .0) (y .1) (y .2) (y .3) (y .4) d r
+      found-2 l i nm (before k) v (y .0) (f .0) (y .1) (y .2) (y .3) (y .4) d r
   found ed l i b c (raw nm) bs {ts} {rest} f h e =
       let o = bytes-got n bs (λ xs r. got (bytes nm xs ∷ []) r) h e in
       let z : got (bytes nm (o .what) ∷ []) (o .rest) ≡ got ts rest = o .goes in

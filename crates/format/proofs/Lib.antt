@@ -7,6 +7,7 @@ pub mod LedgerLaws
 pub mod FineTables
 pub mod EntryLaws
 pub mod TableLaws
+pub mod TestLaws
 pub mod NumberLaws
 pub mod Demand
 pub mod CallLaws

@@ -7,10 +7,10 @@ use native.Mathlib.Omega.{arith}
 use lib.Dec.{leb, eqb, ltb→lt}
 use lib.ListN.{length, take, drop}
 use Rattle.format.specs.Digits.{value, bitsOf}
-use Rattle.format.specs.Syntax.{Name, Syntax, end, field, when, need, slots, plan, raw, Field, num, flags, bytes, Edition, edition-1, edition-2, Parse, got, refused, andThen, push}
+use Rattle.format.specs.Syntax.{Name, Syntax, end, field, when, need, atMost, slots, plan, raw, Field, num, flags, bytes, Edition, edition-1, edition-2, Parse, got, refused, andThen, push}
 use Rattle.format.specs.Body.{wholes, planned, close, readBody}
 use Rattle.format.specs.Ledger.{size, widened, grant, readCountedBytes, leaves, readFiller, readLedger}
-use Rattle.format.specs.Whole.{Layout, sole, many, opaque, layout, Table, walk, entries, readAs, bodyRead, bodyOf, counted, ended, contentAs, sized, versionOf, idOf, known, editionOf, ledgerRead}
+use Rattle.format.specs.Whole.{Layout, sole, many, opaque, layout, Table, walk, entries, readAs, bodyReadAs, bodyRead, bodyOf, counted, ended, contentAs, sized, versionOf, idOf, known, editionOf, ledgerRead}
 use Rattle.format.proofs.Good.{Fine}
 use Rattle.format.proofs.TableLaws.{FineLayout, fine-layout}
 
@@ -48,6 +48,7 @@ numbered-body i b c n e (field g nm w k) bs f =
 numbered-body i b c n e (when true k l) bs f = numbered-body i b c n e k bs (f .0)
 numbered-body i b c n e (when false k l) bs f = numbered-body i b c n e l bs (f .1)
 numbered-body i b c n e (need a w k) bs f = numbered-cond (leb w (length bs)) _ _ (numbered-body i b c n e k bs (f .2)) (refuses (ltb→lt 0 a (f .0)))
+numbered-body i b c n e (atMost a v m k) bs f = numbered-cond (leb v m) _ _ (numbered-body i b c n e k bs (f .2)) (refuses (omega (arith, f .0)))
 numbered-body i b c n e (slots nm a m k) bs f =
     numbered-cond (leb m (length bs)) _ _ (numbered-push _ _ (numbered-body i b c n e k (drop (8 * wholes m) bs) (f .2))) (refuses (ltb→lt 0 a (f .0)))
 numbered-body i b c n e (plan nm k) bs f =
@@ -73,7 +74,7 @@ numbered-as (many h m s) b f =
 numbered-as opaque b f = accepts
 
 pub numbered-bodyRead : (id : ℕ) (b : List ℕ) → Numbered (bodyRead id b)
-unfolding bodyRead
+unfolding bodyReadAs
 numbered-bodyRead id b = numbered-cond (leb (length b) 4096) _ _ (numbered-as (layout id) b (fine-layout id)) (refuses (omega arith))
 
 -- ---- a ledger
@@ -96,6 +97,7 @@ numbered-ledger ed last n (field g nm w k) bs =
 numbered-ledger ed last n (when true k l) bs = numbered-ledger ed last n k bs
 numbered-ledger ed last n (when false k l) bs = numbered-ledger ed last n l bs
 numbered-ledger ed last n (need a w k) bs = numbered-ledger ed last n k bs
+numbered-ledger ed last n (atMost a v m k) bs = numbered-ledger ed last n k bs
 numbered-ledger ed last n (slots nm a m k) bs =
     let packed : List ℕ = bitsOf (take (wholes m) bs) in
     numbered-grant n (wholes m) (eqb (value 2 (drop m packed)) 0) bs _ (numbered-push (flags nm (take m packed)) _ (numbered-ledger ed last n k (drop (wholes m) bs)))

@@ -11,7 +11,7 @@ use lib.ListN.{length, take, drop}
 use Prim.Native.String as text
 use borrow.Author.Tests.{eq-eqb, ne-eqb, eqb-true, eqb-false}
 use Rattle.format.specs.Digits.{value, bitsOf}
-use Rattle.format.specs.Syntax.{Name, Sign, unsigned, Syntax, end, field, when, need, slots, plan, raw, Field, num, flags, bytes, len, filler, Edition, edition-2, Parse, got, refused, andThen, push}
+use Rattle.format.specs.Syntax.{Name, Sign, unsigned, Syntax, end, field, when, need, atMost, slots, plan, raw, Field, num, flags, bytes, len, filler, Edition, edition-2, Parse, got, refused, andThen, push}
 use Rattle.format.specs.Tables.{bits, u, clock, mode, hopping}
 use Rattle.format.specs.Body.{planned, kept}
 use Rattle.format.specs.Ledger.{rawLeft, leaves, readFiller, readLedger}
@@ -85,6 +85,7 @@ NoRaw end = Unit {0}
 NoRaw (field g nm w k) = (v : ℕ) → NoRaw (k v)
 NoRaw (when t k l) = NoRaw k × NoRaw l
 NoRaw (need a w k) = NoRaw k
+NoRaw (atMost a v j k) = NoRaw k
 NoRaw (slots nm a j k) = NoRaw k
 NoRaw (plan nm k) = ⊥
 NoRaw (raw nm) = ⊥
@@ -95,6 +96,7 @@ raw-free p (Good.g-field g nm j k v _ _ r) w f = raw-free (p v) r w f
 raw-free p (Good.g-yes r) w f = raw-free (p .0) r w f
 raw-free p (Good.g-no r) w f = raw-free (p .1) r w f
 raw-free p (Good.g-need a j _ r) w f = raw-free p r w f
+raw-free p (Good.g-most a v j _ r) w f = raw-free p r w f
 raw-free p (Good.g-slots nm a j bs _ _ r) w f = raw-free p r w f
 raw-free p (Good.g-plan nm v fs _ r) w f = absurd p
 raw-free p (Good.g-raw nm bs _ _) w f = absurd p
@@ -140,14 +142,24 @@ line-of nm w s r =
     let o = field-of r in
     record { us = o .us; raws = λ t f. ap (rawLeft t f) (o .is); size = ap (λ (x : List Field). length (kept x)) (o .is) ∙ Good.laid-num edition-2 unsigned nm w (o .v) (o .us); good = o .good }
 
+most-of : {l i : Bool} {a v m : ℕ} {s : Syntax} {ts : List Field} → Good.Good l i (atMost a v m s) ts → Good.Good l i s ts
+most-of (Good.g-most a v m _ r) = r
+
+-- a field that is tested
+tested-of : {l i : Bool} (nm : Name) (w : ℕ) (s : Syntax) {ts : List Field} → Good.Good l i (bits nm w (λ v. atMost 30 v 299 s)) ts → Behind l i w s ts
+tested-of nm w s r =
+    let o = field-of r in
+    record { us = o .us; raws = λ t f. ap (rawLeft t f) (o .is); size = ap (λ (x : List Field). length (kept x)) (o .is) ∙ Good.laid-num edition-2 unsigned nm w (o .v) (o .us); good = most-of (o .good) }
+
 join : {l i : Bool} {n m : ℕ} {s s₁ : Syntax} {ts : List Field} (x : Behind l i n s ts) → Behind l i m s₁ (x .us) → Behind l i (n + m) s₁ ts
 join x y = record { us = y .us; raws = λ t f. x .raws t f ∙ y .raws t f; size = omega (arith, x .size, y .size); good = y .good }
 
 clock-of : {l i : Bool} (c : Name) (s : Syntax) {ts : List Field} → Good.Good l i (clock c s) ts → Behind l i 48 s ts
 clock-of c s r =
-    let x = line-of (text._++_ c "_base") 33 (u (text._++_ c "_reserved_zero_future_use") 6 (u (text._++_ c "_ext") 9 s)) r in
-    let y = line-of (text._++_ c "_reserved_zero_future_use") 6 (u (text._++_ c "_ext") 9 s) (x .good) in
-    join x (join y (line-of (text._++_ c "_ext") 9 s (y .good)))
+    let ext : ℕ → Syntax = λ v. atMost 30 v 299 s in
+    let x = line-of (text._++_ c "_base") 33 (u (text._++_ c "_reserved_zero_future_use") 6 (bits (text._++_ c "_ext") 9 ext)) r in
+    let y = line-of (text._++_ c "_reserved_zero_future_use") 6 (bits (text._++_ c "_ext") 9 ext) (x .good) in
+    join x (join y (tested-of (text._++_ c "_ext") 9 s (y .good)))
 
 mode-of : (g : Sign) (w w₁ v m : ℕ) (us : List Field) → the "time_plan_mode" (num g "reserved_zero_future_use_mode" w v ∷ num unsigned "time_plan_mode" w₁ m ∷ us) ≡ m
 unfolding firstBy

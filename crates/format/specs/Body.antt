@@ -6,7 +6,7 @@ use mathlib.Core.List.{List, [], _∷_, _++_}
 use lib.Dec.{leb}
 use lib.ListN.{length, take, drop, replicate}
 use Rattle.format.specs.Digits.{digits, value}
-use Rattle.format.specs.Syntax.{Name, Syntax, end, field, when, need, slots, plan, raw, Field, num, flags, bytes, len, filler, Edition, edition-1, edition-2, added, Parse, got, refused, andThen, push}
+use Rattle.format.specs.Syntax.{Name, Syntax, end, field, when, need, atMost, slots, plan, raw, Field, num, flags, bytes, len, filler, Edition, edition-1, edition-2, added, Parse, got, refused, andThen, push}
 
 -- the bytes that m bits take
 abbrev pub wholes : ℕ → ℕ
@@ -39,6 +39,9 @@ readBody n e (when false k l) bs = readBody n e l bs
 readBody n e (need a w k) bs =
     let more : Parse (List Field) = readBody n e k bs in
     cond (leb w (length bs)) more (refused a w (length bs))
+readBody n e (atMost a v m k) bs =
+    let more : Parse (List Field) = readBody n e k bs in
+    cond (leb v m) more (refused a v m)
 readBody n e (slots nm a m k) bs =
     let more : Parse (List Field) = push (flags nm (take m bs)) (readBody n e k (drop (8 * wholes m) bs)) in
     cond (leb m (length bs)) more (refused a m (length bs))

@@ -6,7 +6,7 @@ use mathlib.Core.List.{List, [], _∷_, _++_}
 use lib.Dec.{leb, ltb, eqb}
 use lib.ListN.{length, take, drop}
 use Rattle.format.specs.Digits.{digits, value, bitsOf, bytesOf}
-use Rattle.format.specs.Syntax.{Sign, unsigned, signed, Syntax, end, field, when, need, slots, plan, raw, Field, num, flags, bytes, len, filler, Edition, edition-1, edition-2, added, Name, Parse, got, refused, andThen, push}
+use Rattle.format.specs.Syntax.{Sign, unsigned, signed, Syntax, end, field, when, need, atMost, slots, plan, raw, Field, num, flags, bytes, len, filler, Edition, edition-1, edition-2, added, Name, Parse, got, refused, andThen, push}
 use Rattle.format.specs.Body.{wholes, planned, padded, plain, kept}
 
 -- the bytes of a field of w bits: 1, 2, 4 or 8, and 4 for a signed one
@@ -81,6 +81,7 @@ readLedger ed last n (field g nm w k) bs =
 readLedger ed last n (when true k l) bs = readLedger ed last n k bs
 readLedger ed last n (when false k l) bs = readLedger ed last n l bs
 readLedger ed last n (need a w k) bs = readLedger ed last n k bs
+readLedger ed last n (atMost a v m k) bs = readLedger ed last n k bs
 readLedger ed last n (slots nm a m k) bs =
     let packed : List ℕ = bitsOf (take (wholes m) bs) in
     let more : Parse (List Field) = push (flags nm (take m packed)) (readLedger ed last n k (drop (wholes m) bs)) in

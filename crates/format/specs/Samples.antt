@@ -10,7 +10,7 @@ use Rattle.format.specs.Syntax.{Edition, edition-1, edition-2, got, refu
 use Rattle.format.specs.Tables.{position, fragment, association, beamhopping, header, position3}
 use Rattle.format.specs.Body.{readBody, laid}
 use Rattle.format.specs.Ledger.{ledger, readLedger}
-use Rattle.format.specs.Whole.{entriesOf, walk, readAs, bodyRead, laids, ledgers, bodyOf, contentOf, version, ledgerOf, counted, contentAs, idOf, ledgerRead}
+use Rattle.format.specs.Whole.{entriesOf, walk, readAs, bodyReadAs, bodyRead, laids, ledgers, bodyOf, contentOf, version, ledgerOf, counted, contentAs, idOf, ledgerRead}
 use Rattle.format.specs.ByName.{theInt, firstBy}
 use Rattle.format.specs.Refusals.{refuse}
 use Rattle.format.specs.Calls.{answer, left, filed, relaid, restored, writeAnswer, writeLeft, readAnswer, readLeft}
@@ -73,7 +73,7 @@ p1-to-p12 =
     []
 
 pub samples-hold : AllHold p1-to-p12
-unfolding p1-to-p12 filed relaid bodyRead readAs walk readBody bitsOf bytesOf digits value ledgerOf contentOf bodyOf laids ledgers ledger laid position fragment association beamhopping header position3 entriesOf firstBy twos
+unfolding p1-to-p12 filed relaid bodyReadAs readAs walk readBody bitsOf bytesOf digits value ledgerOf contentOf bodyOf laids ledgers ledger laid position fragment association beamhopping header position3 entriesOf firstBy twos
 samples-hold = (refl, ((refl, refl), (refl, (refl, ((refl, refl), ((refl, refl), ((refl, refl), (refl, (refl, (refl, (refl, (refl, tt))))))))))))
 
 -- ---- ledgers: each refusal with its place
@@ -201,9 +201,72 @@ edition-2-samples =
     []
 
 pub edition-2-samples-hold : AllHold edition-2-samples
-unfolding edition-2-samples filed relaid bodyRead readAs walk readBody ledgerOf contentOf ledgers ledger restored ledgerRead contentAs counted readLedger bodyOf laids laid bitsOf bytesOf digits value position beamhopping
+unfolding edition-2-samples filed relaid bodyReadAs readAs walk readBody ledgerOf contentOf ledgers ledger restored ledgerRead contentAs counted readLedger bodyOf laids laid bitsOf bytesOf digits value position beamhopping
 edition-2-samples-hold =
     (refl, (refl, (refl, (refl, (refl, (refl, (refl, (refl, (refl, (refl, (refl, ((refl, refl), ((refl, refl), ((refl, refl), ((refl, refl), ((refl, refl), ((refl, refl), ((refl, refl), (refl, (refl, (refl, (refl, (refl, (refl, (refl, (refl, (refl, (refl, (refl, (refl, (refl, tt)))))))))))))))))))))))))))))))
+
+-- ---- S-23, extensions above 299: a body with one is refused, a ledger with one is read
+
+-- a clock, its extension 256 + x; or 0 in all
+abbrev ticking : ℕ → List ℕ
+ticking x = replicate 4 0 ++ (1 ∷ x ∷ [])
+
+abbrev still : List ℕ
+still = replicate 6 0
+
+-- a time association, and its ledger: the extension is at place 15
+abbrev associated : ℕ → List ℕ
+associated x = 0 ∷ ticking x ++ replicate 12 0
+
+abbrev associatedLedger : Edition → ℕ → List ℕ
+associatedLedger ed x = framed ed 2 (replicate 11 0 ++ (1 ∷ x ∷ replicate 12 0))
+
+-- a fragment without centre and old systems, of new and of obsolescent systems; each is an id and a clock
+abbrev changing : ℕ → ℕ → List ℕ → List ℕ → List ℕ
+changing n m news olds = replicate 7 0 ++ (n ∷ news) ++ (0 ∷ m ∷ olds)
+
+abbrev at : List ℕ → List ℕ
+at clock = replicate 4 0 ++ clock
+
+-- a plan of a length and a mode, up to its two clocks
+abbrev clocked : ℕ → ℕ → List ℕ → List ℕ
+clocked v m clocks = replicate 4 0 ++ digits 256 2 v ++ (m ∷ clocks)
+
+pub extension-samples : List Sample
+extension-samples =
+    -- 299 is the last one
+    files edition-1 2 (associated 43) (associatedLedger edition-1 43) ∷
+    files edition-2 2 (associated 43) (associatedLedger edition-2 43) ∷
+    refuses edition-1 2 (associated 44) 30 300 299 ∷
+    refuses edition-2 2 (associated 255) 30 511 299 ∷
+    -- the test of a group's bits comes first
+    refuses edition-1 2 (0 ∷ ticking 44) 9 152 56 ∷
+    refuses edition-1 1 (changing 2 0 (at (ticking 44)) []) 7 160 96 ∷
+    refuses edition-1 3 (clocked 25 0 (still ++ still ++ ticking 44)) 10 96 48 ∷
+    -- a clock is read whole before its extension is tested; what stands behind it comes later: the next clock, the test
+    -- of the mode's bits, the plan's end
+    refuses edition-1 3 (clocked 0 0 (0 ∷ 0 ∷ 0 ∷ 0 ∷ 1 ∷ [])) 1 104 96 ∷
+    refuses edition-1 3 (clocked 0 0 (ticking 44)) 30 300 299 ∷
+    refuses edition-1 3 (clocked 0 0 (ticking 44 ++ still)) 30 300 299 ∷
+    refuses edition-1 3 (clocked 0 0 (ticking 44 ++ still ++ still ++ still)) 30 300 299 ∷
+    -- every clock of a plan, that of a raw one too; raw bytes and filler are no clocks
+    refuses edition-1 3 (clocked 13 3 (still ++ ticking 45)) 30 301 299 ∷
+    refuses edition-1 3 (clocked 25 0 (still ++ still ++ still ++ ticking 46)) 30 302 299 ∷
+    refuses edition-2 3 (clocked 37 2 (still ++ still ++ still ++ still ++ still ++ ticking 47)) 30 303 299 ∷
+    lays edition-1 3 (clocked 19 3 (still ++ still ++ ticking 44)) (clocked 19 3 (still ++ still ++ ticking 44)) ∷
+    lays edition-2 3 (clocked 31 0 (still ++ still ++ still ++ still ++ ticking 44)) (clocked 31 0 (still ++ still ++ still ++ still ++ ticking 44)) ∷
+    -- every system
+    refuses edition-1 1 (changing 2 0 (at still ++ at (ticking 44)) []) 30 300 299 ∷
+    refuses edition-1 1 (changing 1 2 (at still) (at still ++ at (ticking 44))) 30 300 299 ∷
+    -- stored ledgers of both editions
+    restores (associatedLedger edition-1 44) 2 (associated 44) ∷
+    restores (associatedLedger edition-2 255) 2 (associated 255) ∷
+    []
+
+pub extension-samples-hold : AllHold extension-samples
+unfolding extension-samples filed relaid bodyReadAs readAs walk readBody ledgerOf contentOf ledgers ledger restored ledgerRead contentAs counted readLedger bodyOf laids laid bitsOf bytesOf digits value fragment association beamhopping
+extension-samples-hold =
+    (refl, (refl, ((refl, refl), ((refl, refl), ((refl, refl), ((refl, refl), ((refl, refl), ((refl, refl), ((refl, refl), ((refl, refl), ((refl, refl), ((refl, refl), ((refl, refl), ((refl, refl), (refl, (refl, ((refl, refl), ((refl, refl), ((refl, refl), ((refl, refl), tt))))))))))))))))))))
 
 -- ---- buffers: one byte short, and one byte more than the result
 
@@ -222,5 +285,5 @@ call-samples =
     []
 
 pub call-samples-hold : AllHold call-samples
-unfolding call-samples writeAnswer writeLeft readAnswer readLeft answer left splice filed bodyRead readAs walk readBody ledgerOf contentOf laids ledgers ledger laid restored ledgerRead contentAs counted readLedger bodyOf bitsOf bytesOf digits value position association
+unfolding call-samples writeAnswer writeLeft readAnswer readLeft answer left splice filed bodyReadAs readAs walk readBody ledgerOf contentOf laids ledgers ledger laid restored ledgerRead contentAs counted readLedger bodyOf bitsOf bytesOf digits value position association
 call-samples-hold = ((refl, refl), ((refl, refl), ((refl, refl), ((refl, refl), ((refl, refl), ((refl, refl), tt))))))

@@ -16,6 +16,7 @@ pub data Sign : Type 0 where
 --   field g nm w k   nm, w bits that spell a number (signed: in two's complement); then k of the number that they spell
 --   when t k l       k where t holds, else l
 --   need a w k       refusal a unless w bits remain
+--   atMost a v m k   refusal a, of v and m, unless v is at most m; then k. A ledger's reading does not test it.
 --   slots nm a m k   refusal a unless m bits remain; then nm, m single bits, and padding to the byte
 --   plan nm k        nm, 12 bits: how many bytes the plan has behind them; then k, which must not pass that end, and
 --                    filler up to it
@@ -25,9 +26,21 @@ pub data Syntax : Type 0 where
   field : Sign → Name → ℕ → (ℕ → Syntax) → Syntax
   when : Bool → Syntax → Syntax → Syntax
   need : ℕ → ℕ → Syntax → Syntax
+  atMost : ℕ → ℕ → ℕ → Syntax → Syntax
   slots : Name → ℕ → ℕ → Syntax → Syntax
   plan : Name → Syntax → Syntax
   raw : Name → Syntax
+
+-- a description as it was before it had these tests
+abbrev pub before : Syntax → Syntax
+before end = end
+before (field g nm w k) = field g nm w (λ v. before (k v))
+before (when t k l) = when t (before k) (before l)
+before (need a w k) = need a w (before k)
+before (atMost a v m k) = before k
+before (slots nm a m k) = slots nm a m (before k)
+before (plan nm k) = plan nm (before k)
+before (raw nm) = raw nm
 
 -- A field as read, under its name: a width and the number that the bits spell; the slots' bits; the bits of raw bytes;
 -- a plan's length; the bits of its "filler" (S-18), which stands behind fields and padding up to its end or the data's.

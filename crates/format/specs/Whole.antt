@@ -7,7 +7,7 @@ use mathlib.Core.List.{List, [], _∷_, _++_}
 use lib.Dec.{leb, eqb}
 use lib.ListN.{length, take, drop, getD}
 use Rattle.format.specs.Digits.{digits, value, Below, bitsOf, bytesOf}
-use Rattle.format.specs.Syntax.{Syntax, end, Field, Edition, edition-1, edition-2, Parse, got, refused, andThen, push}
+use Rattle.format.specs.Syntax.{Syntax, end, before, Field, Edition, edition-1, edition-2, Parse, got, refused, andThen, push}
 use Rattle.format.specs.Tables.{position, fragment, association, beamhopping, header, position3}
 use Rattle.format.specs.Body.{readBody, laid}
 use Rattle.format.specs.Ledger.{ledger, readLedger, grant}
@@ -27,6 +27,12 @@ layout (suc (suc zero)) = sole association
 layout (suc (suc (suc zero))) = many end 48 beamhopping
 layout (suc (suc (suc (suc zero)))) = many header 32 position3
 layout (suc (suc (suc (suc (suc n))))) = opaque
+
+-- as it was before extensions were tested
+abbrev pub layoutBefore : Layout → Layout
+layoutBefore (sole s) = sole (before s)
+layoutBefore (many h m s) = many (before h) m (before s)
+layoutBefore opaque = opaque
 
 -- the fields of a whole body
 pub data Table : Type 0 where
@@ -65,11 +71,14 @@ readAs (many h m s) b =
     andThen (entries (8 * length b) m s (length rest) rest) (λ es over. got (list hs es) []))
 readAs opaque b = got (asIs b) []
 
--- the reading of a body under its table id
-unfoldable pub bodyRead : ℕ → List ℕ → Parse Table
-bodyRead id b =
-    let more : Parse Table = readAs (layout id) b in
+-- the reading of a body; under its table id
+unfoldable pub bodyReadAs : Layout → List ℕ → Parse Table
+bodyReadAs l b =
+    let more : Parse Table = readAs l b in
     cond (leb (length b) 4096) more (refused 21 (length b) 4096)
+
+abbrev pub bodyRead : ℕ → List ℕ → Parse Table
+bodyRead id b = bodyReadAs (layout id) b
 
 -- the places at which the entries of a body start; a body that is no list is one entry
 unfoldable pub startsAs : Layout → List ℕ → Parse (List ℕ)
@@ -82,11 +91,17 @@ bodyStarts id b =
     let more : Parse (List ℕ) = startsAs (layout id) b in
     cond (leb (length b) 4096) more (refused 21 (length b) 4096)
 
--- "accepted": a byte and bytes whose reading meets no refusal, and the fields that it gives
-pub record Accepted (id : ℕ) (b : List ℕ) (t : Table) : Type 0 where
+-- "accepted": a byte and bytes whose reading meets no refusal, and the fields that it gives; now, and before extensions were tested
+pub record AcceptedAs (l : Layout) (id : ℕ) (b : List ℕ) (t : Table) : Type 0 where
   pub byte : id < 256
   pub bytes : Below 256 b
-  pub reads : bodyRead id b ≡ got t []
+  pub reads : bodyReadAs l b ≡ got t []
+
+abbrev pub Accepted : ℕ → List ℕ → Table → Type 0
+Accepted id b t = AcceptedAs (layout id) id b t
+
+abbrev pub AcceptedBefore : ℕ → List ℕ → Table → Type 0
+AcceptedBefore id b t = AcceptedAs (layoutBefore (layout id)) id b t
 
 -- ---- what the fields give
 
