@@ -15,7 +15,7 @@ use Rattle.format.specs.Digits.{Below, splice}
 use Rattle.format.specs.Refusals.{refuse}
 use Rattle.format.specs.Syntax.{Edition, Parse, got, refused, andThen}
 use Rattle.format.specs.Whole.{Table, bodyRead, Accepted, AcceptedBefore, bodyOf, ledgerOf, idOf, editionOf, ledgerRead}
-use Rattle.format.specs.Calls.{numberOf, tableIdOf, lengthOf, answer, Fitted, left, resultIn, Enough, filed, relaid, restored, writeAnswer, writeLeft, readAnswer, readLeft, Wrote, Gave}
+use Rattle.format.specs.Calls.{numberOf, tableIdOf, lengthOf, answer, Fitted, left, resultIn, Enough, filed, relaid, restored, writeAnswer, writeLeft, readAnswer, readLeft, Wrote, Denied, Gave}
 use Rattle.format.specs.declared.Refusal.{Refusal}
 use Rattle.format.specs.declared.Answer.{Answer}
 use Rattle.format.specs.declared.Answer.the-variants.{Done, Refused}
@@ -261,10 +261,16 @@ stored-given {ed} {l} r out h =
     let z : bodyOf (editionOf l) t ≡ bodyOf ed (r .table) = ap (λ (x : Edition). bodyOf x t) d ∙ body-formOf ed (r .table) in
     rw (i, z) at (read-gave out e (enough-body l t (length out) e h))
 
--- the body that comes back has that byte string as its ledger again, in the edition that it names; or it no longer reads, for an extension above 299
+-- a body that is refused is so by either edition's writer
+denied : {id : ℕ} {b : List ℕ} {x y z : ℕ} (ed : Edition) (out : List ℕ) → bodyRead id b ≡ refused x y z → Denied ed id b out (refuse x y z)
+unfolding writeAnswer writeLeft filed answer left
+denied ed out e = record { refuses = rw e; keeps = rw e }
+
+-- the body that comes back has that byte string as its ledger again, in the edition that it names; or, for an extension
+-- above 299, it is refused by 30
 pub data Again (l : List ℕ) (id : ℕ) (b : List ℕ) : Type 0 where
   written : ((out : List ℕ) → length l ≤ length out → Wrote (editionOf l) id b out l) → Again l id b
-  no-more : (v : ℕ) → 299 < v → bodyRead id b ≡ refused 30 v 299 → Again l id b
+  damaged : (v : ℕ) → 299 < v → ((ed : Edition) (out : List ℕ) → Denied ed id b out (refuse 30 v 299)) → Again l id b
 
 read-again : {l : List ℕ} {t : Table} → Below 256 l → ledgerRead l ≡ got t [] → Again l (idOf l) (bodyOf (editionOf l) t)
 read-again {l} {t} hl e = go (still-accepted (q .0))
@@ -279,7 +285,7 @@ read-again {l} {t} hl e = go (still-accepted (q .0))
     go (still r) =
         written (λ out h. subst (λ (x : List ℕ). Wrote ed (idOf l) (bodyOf ed t) out x) (q .1)
         (accepted-wrote ed out (record { byte = q .0 .byte; bytes = q .0 .bytes; reads = r }) (rw (q .1) h)))
-    go (refuses v h r) = no-more v h r
+    go (refuses v h r) = damaged v h (λ ed out. denied ed out r)
 
 pub result-again : {l out b : List ℕ} {id : ℕ} → Below 256 l → Gave l out id b → Again l id b
 result-again {l} hl g =

@@ -11,7 +11,7 @@ use lib.ListN.{length, take, drop}
 use Prim.Native.String as text
 use borrow.Author.Tests.{eq-eqb, ne-eqb, eqb-true, eqb-false}
 use Rattle.format.specs.Digits.{value, bitsOf}
-use Rattle.format.specs.Syntax.{Name, Sign, unsigned, Syntax, end, field, when, need, atMost, slots, plan, raw, Field, num, flags, bytes, len, filler, Edition, edition-2, Parse, got, refused, andThen, push}
+use Rattle.format.specs.Syntax.{Name, Sign, unsigned, Syntax, end, field, when, need, atMost, slots, plan, raw, before, Field, num, flags, bytes, len, filler, Edition, edition-2, Parse, got, refused, andThen, push}
 use Rattle.format.specs.Tables.{bits, u, clock, mode, hopping}
 use Rattle.format.specs.Body.{planned, kept}
 use Rattle.format.specs.Ledger.{rawLeft, leaves, readFiller, readLedger}
@@ -102,7 +102,7 @@ raw-free p (Good.g-plan nm v fs _ r) w f = absurd p
 raw-free p (Good.g-raw nm bs _ _) w f = absurd p
 
 -- mode 3 is raw bytes and nothing else
-mode-left : {l : Bool} {ts : List Field} (m : ℕ) → m < 4 → Good.Good l true (mode m) ts → (w : Bool) (f : ℕ)
+mode-left : {l : Bool} {ts : List Field} (m : ℕ) → m < 4 → Good.Good l true (before (mode m)) ts → (w : Bool) (f : ℕ)
     → rawLeft w f ts ≡ cond (eqb m 3) (cond w (eqb f 0) (eqb (length (kept ts)) 0)) true
 mode-left zero h (Good.g-yes r) w f = raw-free (λ _ _ _ _ _ _. tt) r w f
 mode-left (suc zero) h (Good.g-no (Good.g-yes r)) w f = raw-free (λ _ _ _ _. tt) r w f
@@ -142,31 +142,23 @@ line-of nm w s r =
     let o = field-of r in
     record { us = o .us; raws = λ t f. ap (rawLeft t f) (o .is); size = ap (λ (x : List Field). length (kept x)) (o .is) ∙ Good.laid-num edition-2 unsigned nm w (o .v) (o .us); good = o .good }
 
-most-of : {l i : Bool} {a v m : ℕ} {s : Syntax} {ts : List Field} → Good.Good l i (atMost a v m s) ts → Good.Good l i s ts
-most-of (Good.g-most a v m _ r) = r
-
--- a field that is tested
-tested-of : {l i : Bool} (nm : Name) (w : ℕ) (s : Syntax) {ts : List Field} → Good.Good l i (bits nm w (λ v. atMost 30 v 299 s)) ts → Behind l i w s ts
-tested-of nm w s r =
-    let o = field-of r in
-    record { us = o .us; raws = λ t f. ap (rawLeft t f) (o .is); size = ap (λ (x : List Field). length (kept x)) (o .is) ∙ Good.laid-num edition-2 unsigned nm w (o .v) (o .us); good = most-of (o .good) }
-
 join : {l i : Bool} {n m : ℕ} {s s₁ : Syntax} {ts : List Field} (x : Behind l i n s ts) → Behind l i m s₁ (x .us) → Behind l i (n + m) s₁ ts
 join x y = record { us = y .us; raws = λ t f. x .raws t f ∙ y .raws t f; size = omega (arith, x .size, y .size); good = y .good }
 
-clock-of : {l i : Bool} (c : Name) (s : Syntax) {ts : List Field} → Good.Good l i (clock c s) ts → Behind l i 48 s ts
+-- a clock without its test
+clock-of : {l i : Bool} (c : Name) (s : Syntax) {ts : List Field} → Good.Good l i (before (clock c s)) ts → Behind l i 48 (before s) ts
 clock-of c s r =
-    let ext : ℕ → Syntax = λ v. atMost 30 v 299 s in
-    let x = line-of (text._++_ c "_base") 33 (u (text._++_ c "_reserved_zero_future_use") 6 (bits (text._++_ c "_ext") 9 ext)) r in
-    let y = line-of (text._++_ c "_reserved_zero_future_use") 6 (bits (text._++_ c "_ext") 9 ext) (x .good) in
-    join x (join y (tested-of (text._++_ c "_ext") 9 s (y .good)))
+    let t : Syntax = before s in
+    let x = line-of (text._++_ c "_base") 33 (u (text._++_ c "_reserved_zero_future_use") 6 (u (text._++_ c "_ext") 9 t)) r in
+    let y = line-of (text._++_ c "_reserved_zero_future_use") 6 (u (text._++_ c "_ext") 9 t) (x .good) in
+    join x (join y (line-of (text._++_ c "_ext") 9 t (y .good)))
 
 mode-of : (g : Sign) (w w₁ v m : ℕ) (us : List Field) → the "time_plan_mode" (num g "reserved_zero_future_use_mode" w v ∷ num unsigned "time_plan_mode" w₁ m ∷ us) ≡ m
 unfolding firstBy
 mode-of g w w₁ v m us = refl
 
--- what stands within a plan: 104 bits, and the mode's
-pub hopping-left : {l : Bool} {ts : List Field} → Good.Good l true hopping ts → (w : Bool) (f : ℕ)
+-- what stands within a plan, as a ledger has it, without tests: 104 bits, and the mode's
+pub hopping-left : {l : Bool} {ts : List Field} → Good.Good l true (before hopping) ts → (w : Bool) (f : ℕ)
     → rawLeft w f ts ≡ cond (eqb (the "time_plan_mode" ts) 3) (cond w (eqb f 0) (eqb (length (kept ts)) 104)) true
 hopping-left {ts = ts} r w f =
     let o = field-of r in

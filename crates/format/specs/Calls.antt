@@ -10,6 +10,7 @@ use Rattle.format.specs.Digits.{splice}
 use Rattle.format.specs.Refusals.{refuse}
 use Rattle.format.specs.Syntax.{Edition, Parse, got, refused, andThen}
 use Rattle.format.specs.Whole.{bodyRead, bodyOf, ledgerOf, idOf, editionOf, ledgerRead}
+use Rattle.format.specs.declared.Refusal.{Refusal}
 use Rattle.format.specs.declared.Answer.{Answer}
 use Rattle.format.specs.declared.Answer.the-variants.{Done, Refused}
 
@@ -94,6 +95,11 @@ readLeft l out = left out (restored l)
 pub record Wrote (ed : Edition) (id : ℕ) (b out l : List ℕ) : Type 0 where
   pub accepts : numberOf (writeAnswer ed id b (length out)) ≡ 0
   pub result : resultIn (writeAnswer ed id b (length out)) (writeLeft ed id b out) ≡ l
+
+-- it refuses, and leaves the buffer as it was
+pub record Denied (ed : Edition) (id : ℕ) (b out : List ℕ) (f : Refusal) : Type 0 where
+  pub refuses : writeAnswer ed id b (length out) ≡ Refused f
+  pub keeps : writeLeft ed id b out ≡ out
 
 -- the reader, given a ledger and a buffer, accepts, names the table id, and leaves the body b at the buffer's start
 pub record Gave (l out : List ℕ) (id : ℕ) (b : List ℕ) : Type 0 where

@@ -1,4 +1,5 @@
--- Document 01's samples P1 to P12, and samples of ledgers of both editions: each list is shown whole, by computation.
+-- Document 01's samples P1 to P12, and samples of ledgers of both editions and of clocks' extensions: each list is shown
+-- whole, by computation.
 -- Assumes nothing.
 use Prim.Native.Nat.{ℕ, _+_}
 use mathlib.Core.Path.{_≡_, refl}
@@ -207,28 +208,28 @@ edition-2-samples-hold =
 
 -- ---- S-23, extensions above 299: a body with one is refused, a ledger with one is read
 
--- a clock, its extension 256 + x; or 0 in all
-abbrev ticking : ℕ → List ℕ
-ticking x = replicate 4 0 ++ (1 ∷ x ∷ [])
+-- a clock of base 0 and extension 256 + x, and one of extension 0
+abbrev clockOf : ℕ → List ℕ
+clockOf x = replicate 4 0 ++ (1 ∷ x ∷ [])
 
-abbrev still : List ℕ
-still = replicate 6 0
+abbrev clock0 : List ℕ
+clock0 = replicate 6 0
 
 -- a time association, and its ledger: the extension is at place 15
 abbrev associated : ℕ → List ℕ
-associated x = 0 ∷ ticking x ++ replicate 12 0
+associated x = 0 ∷ clockOf x ++ replicate 12 0
 
 abbrev associatedLedger : Edition → ℕ → List ℕ
 associatedLedger ed x = framed ed 2 (replicate 11 0 ++ (1 ∷ x ∷ replicate 12 0))
 
--- a fragment without centre and old systems, of new and of obsolescent systems; each is an id and a clock
+-- a fragment without a centre, of n new and m obsolescent delivery systems; and a system with a clock
 abbrev changing : ℕ → ℕ → List ℕ → List ℕ → List ℕ
 changing n m news olds = replicate 7 0 ++ (n ∷ news) ++ (0 ∷ m ∷ olds)
 
-abbrev at : List ℕ → List ℕ
-at clock = replicate 4 0 ++ clock
+abbrev systemOf : List ℕ → List ℕ
+systemOf clock = replicate 4 0 ++ clock
 
--- a plan of a length and a mode, up to its two clocks
+-- a plan of a length and a mode, and what stands behind these: clocks, of which the first two are those of every plan
 abbrev clocked : ℕ → ℕ → List ℕ → List ℕ
 clocked v m clocks = replicate 4 0 ++ digits 256 2 v ++ (m ∷ clocks)
 
@@ -240,24 +241,24 @@ extension-samples =
     refuses edition-1 2 (associated 44) 30 300 299 ∷
     refuses edition-2 2 (associated 255) 30 511 299 ∷
     -- the test of a group's bits comes first
-    refuses edition-1 2 (0 ∷ ticking 44) 9 152 56 ∷
-    refuses edition-1 1 (changing 2 0 (at (ticking 44)) []) 7 160 96 ∷
-    refuses edition-1 3 (clocked 25 0 (still ++ still ++ ticking 44)) 10 96 48 ∷
+    refuses edition-1 2 (0 ∷ clockOf 44) 9 152 56 ∷
+    refuses edition-1 1 (changing 2 0 (systemOf (clockOf 44)) []) 7 160 96 ∷
+    refuses edition-1 3 (clocked 25 0 (clock0 ++ clock0 ++ clockOf 44)) 10 96 48 ∷
     -- a clock is read whole before its extension is tested; what stands behind it comes later: the next clock, the test
     -- of the mode's bits, the plan's end
     refuses edition-1 3 (clocked 0 0 (0 ∷ 0 ∷ 0 ∷ 0 ∷ 1 ∷ [])) 1 104 96 ∷
-    refuses edition-1 3 (clocked 0 0 (ticking 44)) 30 300 299 ∷
-    refuses edition-1 3 (clocked 0 0 (ticking 44 ++ still)) 30 300 299 ∷
-    refuses edition-1 3 (clocked 0 0 (ticking 44 ++ still ++ still ++ still)) 30 300 299 ∷
+    refuses edition-1 3 (clocked 0 0 (clockOf 44)) 30 300 299 ∷
+    refuses edition-1 3 (clocked 0 0 (clockOf 44 ++ clock0)) 30 300 299 ∷
+    refuses edition-1 3 (clocked 0 0 (clockOf 44 ++ clock0 ++ clock0 ++ clock0)) 30 300 299 ∷
     -- every clock of a plan, that of a raw one too; raw bytes and filler are no clocks
-    refuses edition-1 3 (clocked 13 3 (still ++ ticking 45)) 30 301 299 ∷
-    refuses edition-1 3 (clocked 25 0 (still ++ still ++ still ++ ticking 46)) 30 302 299 ∷
-    refuses edition-2 3 (clocked 37 2 (still ++ still ++ still ++ still ++ still ++ ticking 47)) 30 303 299 ∷
-    lays edition-1 3 (clocked 19 3 (still ++ still ++ ticking 44)) (clocked 19 3 (still ++ still ++ ticking 44)) ∷
-    lays edition-2 3 (clocked 31 0 (still ++ still ++ still ++ still ++ ticking 44)) (clocked 31 0 (still ++ still ++ still ++ still ++ ticking 44)) ∷
+    refuses edition-1 3 (clocked 13 3 (clock0 ++ clockOf 45)) 30 301 299 ∷
+    refuses edition-1 3 (clocked 25 0 (clock0 ++ clock0 ++ clock0 ++ clockOf 46)) 30 302 299 ∷
+    refuses edition-2 3 (clocked 37 2 (clock0 ++ clock0 ++ clock0 ++ clock0 ++ clock0 ++ clockOf 47)) 30 303 299 ∷
+    lays edition-1 3 (clocked 19 3 (clock0 ++ clock0 ++ clockOf 44)) (clocked 19 3 (clock0 ++ clock0 ++ clockOf 44)) ∷
+    lays edition-2 3 (clocked 31 0 (clock0 ++ clock0 ++ clock0 ++ clock0 ++ clockOf 44)) (clocked 31 0 (clock0 ++ clock0 ++ clock0 ++ clock0 ++ clockOf 44)) ∷
     -- every system
-    refuses edition-1 1 (changing 2 0 (at still ++ at (ticking 44)) []) 30 300 299 ∷
-    refuses edition-1 1 (changing 1 2 (at still) (at still ++ at (ticking 44))) 30 300 299 ∷
+    refuses edition-1 1 (changing 2 0 (systemOf clock0 ++ systemOf (clockOf 44)) []) 30 300 299 ∷
+    refuses edition-1 1 (changing 1 2 (systemOf clock0) (systemOf clock0 ++ systemOf (clockOf 44))) 30 300 299 ∷
     -- stored ledgers of both editions
     restores (associatedLedger edition-1 44) 2 (associated 44) ∷
     restores (associatedLedger edition-2 255) 2 (associated 255) ∷

@@ -16,7 +16,7 @@ pub data Sign : Type 0 where
 --   field g nm w k   nm, w bits that spell a number (signed: in two's complement); then k of the number that they spell
 --   when t k l       k where t holds, else l
 --   need a w k       refusal a unless w bits remain
---   atMost a v m k   refusal a, of v and m, unless v is at most m; then k. A ledger's reading does not test it.
+--   atMost a v m k   refusal a, with v and m, unless v is at most m; only a body's reading tests it, and no ledger's
 --   slots nm a m k   refusal a unless m bits remain; then nm, m single bits, and padding to the byte
 --   plan nm k        nm, 12 bits: how many bytes the plan has behind them; then k, which must not pass that end, and
 --                    filler up to it
@@ -31,7 +31,7 @@ pub data Syntax : Type 0 where
   plan : Name → Syntax → Syntax
   raw : Name → Syntax
 
--- a description as it was before it had these tests
+-- a description as it was before it had such tests
 abbrev pub before : Syntax → Syntax
 before end = end
 before (field g nm w k) = field g nm w (λ v. before (k v))

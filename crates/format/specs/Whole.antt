@@ -28,7 +28,7 @@ layout (suc (suc (suc zero))) = many end 48 beamhopping
 layout (suc (suc (suc (suc zero)))) = many header 32 position3
 layout (suc (suc (suc (suc (suc n))))) = opaque
 
--- as it was before extensions were tested
+-- as it was before extensions were tested (S-23)
 abbrev pub layoutBefore : Layout → Layout
 layoutBefore (sole s) = sole (before s)
 layoutBefore (many h m s) = many (before h) m (before s)
@@ -71,7 +71,7 @@ readAs (many h m s) b =
     andThen (entries (8 * length b) m s (length rest) rest) (λ es over. got (list hs es) []))
 readAs opaque b = got (asIs b) []
 
--- the reading of a body; under its table id
+-- the reading of a body by a layout, and under its table id
 unfoldable pub bodyReadAs : Layout → List ℕ → Parse Table
 bodyReadAs l b =
     let more : Parse Table = readAs l b in
@@ -91,7 +91,8 @@ bodyStarts id b =
     let more : Parse (List ℕ) = startsAs (layout id) b in
     cond (leb (length b) 4096) more (refused 21 (length b) 4096)
 
--- "accepted": a byte and bytes whose reading meets no refusal, and the fields that it gives; now, and before extensions were tested
+-- "accepted": a byte and bytes whose reading meets no refusal, and the fields that it gives. Now; and "accepted before
+-- this change" (S-23), when extensions were not tested
 pub record AcceptedAs (l : Layout) (id : ℕ) (b : List ℕ) (t : Table) : Type 0 where
   pub byte : id < 256
   pub bytes : Below 256 b

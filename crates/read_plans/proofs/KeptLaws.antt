@@ -12,7 +12,7 @@ use lib.Seq.{drop-drop, length-take-le}
 use borrow.Author.Tests.{eqb-true}
 use Rattle.format.specs.Digits.{digits, value, Below, bitsOf, splice}
 use Rattle.format.specs.Refusals.{refuse}
-use Rattle.format.specs.Syntax.{Name, unsigned, Syntax, end, field, plan, raw, Field, num, bytes, edition-2, Parse, got, refused, andThen, push}
+use Rattle.format.specs.Syntax.{Name, unsigned, Syntax, end, field, plan, raw, before, Field, num, bytes, edition-2, Parse, got, refused, andThen, push}
 use Rattle.format.specs.Tables.{hopping, beamhopping}
 use Rattle.format.specs.Body.{planned, laid, kept}
 use Rattle.format.specs.Ledger.{grant, leaves, readFiller, readLedger}
@@ -39,7 +39,7 @@ two-bytes l p b h =
     let z : value 256 (take 2 (drop p l)) < 256 ^ 2 = rw (length-take-le 2 (drop p l) (omega (arith, length-drop p l))) at (value-lt 256 (take 2 (drop p l)) (below-take 256 2 (drop p l) (below-drop 256 p l b))) in
     omega arith
 
-leaves-by : {l : Bool} {us : List Field} → Good l true hopping us → (b : Bool) (v f : ℕ) → leaves b v us f ≡ leavesBy b v (length (kept us)) f (the "time_plan_mode" us)
+leaves-by : {l : Bool} {us : List Field} → Good l true (before hopping) us → (b : Bool) (v f : ℕ) → leaves b v us f ≡ leavesBy b v (length (kept us)) f (the "time_plan_mode" us)
 unfolding leavesBy
 leaves-by g b v f = rw (hopping-left g true f, hopping-left g false f)
 

@@ -9,20 +9,20 @@ use lib.Dec.{eqb}
 use lib.ListN.{length, take, drop, length-drop}
 use lib.Seq.{drop-drop}
 use Rattle.format.specs.Digits.{Below, value}
-use Rattle.format.specs.Syntax.{Name, Syntax, end, Field, num, Edition, got, push}
+use Rattle.format.specs.Syntax.{Name, Syntax, end, Field, num, Edition, Parse, got, push}
 use Rattle.format.specs.Body.{laid, kept}
 use Rattle.format.specs.Ledger.{widened, readLedger}
 use Rattle.format.proofs.DigitLaws.{below-drop}
 use Rattle.format.proofs.ParseLaws.{push-got, grant-got}
-use Rattle.format.proofs.Good.{Fine, whole, laid-nil, laid-num}
+use Rattle.format.proofs.Good.{Fine, fine-before, whole, laid-nil, laid-num}
 use Rattle.format.proofs.Forms.{kept-form}
 use Rattle.format.proofs.LedgerLaws.{found}
-use Rattle.runs.specs.Lines.{signOf, widthOf, sizeOf, run, widthsOf, sizesOf, headName, tailNames}
+use Rattle.runs.specs.Lines.{signOf, widthOf, sizeOf, tested, run, widthsOf, sizesOf, headName, tailNames}
 use Rattle.runs.specs.declared.Step.{Step}
 use Rattle.runs.specs.declared.Step.the-variants.{Done}
 use Rattle.write_runs.proofs.WentLaws.{pushes-got}
 use Rattle.read_runs.specs.Came.{Way, someWay, Came, Laid}
-use Rattle.read_runs.proofs.CameLaws.{done}
+use Rattle.read_runs.proofs.CameLaws.{test-passed, done}
 
 -- ---- how far a run goes
 
@@ -38,9 +38,11 @@ run-got ed last n nms v (c ∷ cs) bs {ts} {rest} q =
     let x : ℕ = value 256 (take z bs) in
     let y : ℕ = x % 2 ^ widthOf c in
     let t : Field = num (signOf c) (headName nms) (widthOf c) y in
-    let p = grant-got n z (eqb (widened (signOf c) (widthOf c) y) x) bs (push t (readLedger ed last n (run (tailNames nms) y cs (λ _. end)) (drop z bs))) q in
-    let o = push-got t (readLedger ed last n (run (tailNames nms) y cs (λ _. end)) (drop z bs)) (p .2) in
-    let r = run-got ed last n (tailNames nms) y cs (drop z bs) (o .1) in (
+    let s : Syntax = run (tailNames nms) y cs (λ _. end) in
+    let more : Parse (List Field) = readLedger ed last n (tested c y s) (drop z bs) in
+    let p = grant-got n z (eqb (widened (signOf c) (widthOf c) y) x) bs (push t more) q in
+    let o = push-got t more (p .2) in
+    let r = run-got ed last n (tailNames nms) y cs (drop z bs) (sym (test-passed ed last n c y s (drop z bs)) ∙ o .1) in (
       rw (o .2) (laid-num ed (signOf c) (headName nms) (widthOf c) y (o .0) ∙ ap (λ (k : ℕ). widthOf c + k) (r .0)),
       omega (arith, p .0, r .1, length-drop z bs),
       r .2 ∙ drop-drop (sizesOf cs) z bs,
@@ -63,7 +65,7 @@ pub read-whole : {ts : List Field} {rest : List ℕ} (ed : Edition) (last : Bool
 read-whole {ts} ed last l s place f b e =
     let r = found (length l) ed last false 0 0 s (drop place l) f (below-drop 256 place l b) e in
     let z : laid ed ts ≡ kept ts = sym (kept-form ed ts) ∙ ap kept (r .same) in
-    omega (arith, ap length z, whole ed 0 0 (r .good) f)
+    omega (arith, ap length z, whole ed 0 0 (r .good) (fine-before false 0 0 s f))
 
 pub came-whole : {way : Way} {l out out′ : List ℕ} {s : Syntax} {place p at a : ℕ} → Fine false 0 0 s → Below 256 l → at % 8 ≡ 0 → Came way l s place at out end p a out′ → a % 8 ≡ 0
 unfolding readLedger

@@ -1,19 +1,19 @@
 -- What a field is, by its mark.
 -- Assumes nothing.
 use Prim.Native.Nat.{ℕ, zero, suc, _+_, _-_, _*_, _%_, _^_, _≤_, _<_}
-use mathlib.Core.Path.{_≡_, refl}
-use mathlib.Core.Bool.{Bool, true, false, cond, _&&_}
+use mathlib.Core.Path.{_≡_, refl, subst}
+use mathlib.Core.Bool.{Bool, true, false, cond, _&&_, _||_}
 use mathlib.Core.List.{List, [], _∷_}
 use native.Mathlib.Omega.{arith}
-use lib.Dec.{T, leb, ltb, leb→le, le→leb}
+use lib.Dec.{T, leb, ltb, eqb, leb→le, le→leb}
 use lib.ListN.{length, getD}
 use lib.Pow.{pow-mono}
-use borrow.Author.Tests.{le-ltb, lt-ltb, ltb-true, leb-true, leb-false}
-use Rattle.format.specs.Syntax.{unsigned, signed}
+use borrow.Author.Tests.{le-ltb, lt-ltb, ltb-true, leb-true, leb-false, eqb-true, eq-eqb, ne-eqb}
+use Rattle.format.specs.Syntax.{Sign, unsigned, signed}
 use Rattle.format.specs.Ledger.{size}
 use Rattle.format.proofs.Good.{widest}
 use Rattle.bits.proofs.Values.{one-shl}
-use Rattle.runs.specs.Lines.{signOf, widthOf, sizeOf, shownOf, markOk, marksOk}
+use Rattle.runs.specs.Lines.{ext, signOf, widthOf, sizeOf, shownOf, markOk, marksOk}
 
 -- at least one bit and byte, at most 64 bits and 8 bytes; no more bytes than bits, and room for the bits
 pub record MarkFacts (c : ℕ) : Type 0 where
@@ -42,15 +42,16 @@ sizes w h m =
     (λ p. cases (Sized w) (leb w 16) 2 _ (λ q. omega (arith, leb-false w 8 p, leb-true w 16 q))
     (λ q. cases (Sized w) (leb w 32) 4 8 (λ r. omega (arith, leb-false w 16 q, leb-true w 32 r)) (λ r. omega (arith, leb-false w 32 r))))
 
+abbrev Facts : Sign → ℕ → Type 0
+Facts g w = (1 ≤ w) × (w ≤ 64) × Sized w (size g w) × T (leb w (widest g))
+
 pub mark-facts : (c : ℕ) → T (markOk c) → MarkFacts c
 unfolding signOf widthOf sizeOf
 mark-facts c h =
-    let f = go (ltb c 128) h in
+    let f = special (eqb c ext) refl h in
     record { some = f .0; most = f .1; one = f .2 .0; eight = f .2 .1; less = f .2 .2; room = f .2 .3; ledger = f .3 }
   where
-    go : (t : Bool) → T (cond t (leb 1 c && leb c 64) (leb 132 c && leb c 160))
-        → (1 ≤ cond t c (c - 128)) × (cond t c (c - 128) ≤ 64) × Sized (cond t c (c - 128)) (size (cond t unsigned signed) (cond t c (c - 128)))
-        × T (leb (cond t c (c - 128)) (widest (cond t unsigned signed)))
+    go : (t : Bool) → T (cond t (leb 1 c && leb c 64) (leb 132 c && leb c 160)) → Facts (cond t unsigned signed) (cond t c (c - 128))
     go true h =
         let z = both (leb 1 c) (leb c 64) h in
         (leb→le 1 c (z .0), leb→le c 64 (z .1), sizes c (leb→le 1 c (z .0)) (leb→le c 64 (z .1)), z .1)
@@ -59,6 +60,11 @@ mark-facts c h =
         let p : 132 ≤ c = leb→le 132 c (z .0) in
         let q : c ≤ 160 = leb→le c 160 (z .1) in
         (omega arith, omega arith, omega arith, le→leb (c - 128) 32 (omega arith))
+
+    special : (t : Bool) → eqb c ext ≡ t → T (t || cond (ltb c 128) (leb 1 c && leb c 64) (leb 132 c && leb c 160))
+        → Facts (cond (ltb c 128) unsigned signed) (cond t 9 (cond (ltb c 128) c (c - 128)))
+    special true e h = rw (eqb-true c ext e) (omega arith, omega arith, omega arith, tt)
+    special false e h = go (ltb c 128) h
 
 -- a signed field's powers, as the machine makes them
 pub record Powers (c : ℕ) : Type 0 where
@@ -72,8 +78,11 @@ pub record Powers (c : ℕ) : Type 0 where
 
 pub powers : (c : ℕ) → T (markOk c) → 128 ≤ c → Powers c
 unfolding widthOf signOf
-powers c h m = go (ltb c 128) refl h
+powers c h m = go (ltb c 128) refl (subst (λ (t : Bool). T (t || cond (ltb c 128) (leb 1 c && leb c 64) (leb 132 c && leb c 160))) none h)
   where
+    none : eqb c ext ≡ false
+    none = ne-eqb c ext (λ e. omega arith)
+
     go : (t : Bool) → ltb c 128 ≡ t → T (cond t (leb 1 c && leb c 64) (leb 132 c && leb c 160)) → Powers c
     go true e h = absurd (omega (arith, ltb-true c 128 e))
     go false e h =
@@ -87,14 +96,9 @@ powers c h m = go (ltb c 128) refl h
           whole = one-shl (c - 128) (omega arith);
           half = one-shl (c - 128 - 1) (omega arith);
           small = pow-mono l;
-          width = rw (le-ltb c 128 m);
+          width = rw (none, le-ltb c 128 m);
           sign = rw (le-ltb c 128 m);
         }
-
--- an unsigned field
-pub unsigned-width : (c : ℕ) → c < 128 → (widthOf c ≡ c) × (signOf c ≡ unsigned)
-unfolding widthOf signOf
-unsigned-width c h = (rw (lt-ltb c 128 h), rw (lt-ltb c 128 h))
 
 pub marks-at : (cs : List ℕ) (i : ℕ) → T (marksOk cs) → i < length cs → T (markOk (getD cs i 0))
 marks-at [] i h l = absurd (omega arith)
@@ -106,14 +110,21 @@ pub size-signed : (c : ℕ) → 128 ≤ c → sizeOf c ≡ 4
 unfolding sizeOf signOf
 size-signed c h = rw (le-ltb c 128 h)
 
-pub size-unsigned : (c : ℕ) → c < 128 → sizeOf c ≡ cond (leb c 8) 1 (cond (leb c 16) 2 (cond (leb c 32) 4 8))
-unfolding sizeOf signOf widthOf
+pub size-unsigned : (c : ℕ) → c < 128 → sizeOf c ≡ cond (leb (widthOf c) 8) 1 (cond (leb (widthOf c) 16) 2 (cond (leb (widthOf c) 32) 4 8))
+unfolding sizeOf signOf
 size-unsigned c h = rw (lt-ltb c 128 h)
 
 pub shown-signed : (c v : ℕ) → 128 ≤ c → shownOf c v ≡ cond (ltb v (2 ^ (c - 128 - 1))) v (v + (2 ^ 32 - 2 ^ (c - 128)))
 unfolding shownOf signOf widthOf
-shown-signed c v h = rw (le-ltb c 128 h)
+shown-signed c v h =
+    let none : eqb c ext ≡ false = ne-eqb c ext (λ e. omega arith) in
+    rw (none, le-ltb c 128 h)
 
 pub shown-unsigned : (c v : ℕ) → c < 128 → shownOf c v ≡ v
 unfolding shownOf signOf widthOf
 shown-unsigned c v h = rw (lt-ltb c 128 h)
+
+-- an extension has 9 bits
+pub width-ext : (c : ℕ) → c ≡ ext → widthOf c ≡ 9
+unfolding widthOf
+width-ext c h = rw (eq-eqb c ext h)

@@ -1,17 +1,22 @@
--- Runs of fields as bytes that code goes by. A mark: w for a field of w bits, 128 + w for a signed one.
+-- Runs of fields as bytes that code goes by. A mark: w for a field of w bits, 128 + w for a signed one; a clock's
+-- extension has one of its own.
 -- Assumes nothing: these are definitions.
 use Prim.Native.Nat.{ℕ, _+_, _-_}
-use mathlib.Core.Bool.{Bool, true, cond, _&&_}
+use mathlib.Core.Bool.{Bool, true, cond, _&&_, _||_}
 use mathlib.Core.List.{List, [], _∷_}
-use lib.Dec.{ltb, leb}
-use Rattle.format.specs.Syntax.{Name, Sign, unsigned, signed, Syntax, field}
+use lib.Dec.{ltb, leb, eqb}
+use Rattle.format.specs.Syntax.{Name, Sign, unsigned, signed, Syntax, field, atMost}
 use Rattle.format.specs.Ledger.{size, widened}
+
+-- the mark of a clock's extension: 9 bits, of which a body's reading tests the number (S-23)
+abbrev pub ext : ℕ
+ext = 73
 
 unfoldable pub signOf : ℕ → Sign
 signOf c = cond (ltb c 128) unsigned signed
 
 unfoldable pub widthOf : ℕ → ℕ
-widthOf c = cond (ltb c 128) c (c - 128)
+widthOf c = cond (eqb c ext) 9 (cond (ltb c 128) c (c - 128))
 
 -- the bytes of a field in a ledger, and the number there
 unfoldable pub sizeOf : ℕ → ℕ
@@ -20,17 +25,25 @@ sizeOf c = size (signOf c) (widthOf c)
 unfoldable pub shownOf : ℕ → ℕ → ℕ
 shownOf c v = widened (signOf c) (widthOf c) v
 
--- a mark that there is: 1 to 64 bits, or 4 to 32 bits signed
+-- a mark that there is: an extension, or 1 to 64 bits, or 4 to 32 bits signed
 abbrev pub markOk : ℕ → Bool
-markOk c = cond (ltb c 128) (leb 1 c && leb c 64) (leb 132 c && leb c 160)
+markOk c = eqb c ext || cond (ltb c 128) (leb 1 c && leb c 64) (leb 132 c && leb c 160)
 
 abbrev pub marksOk : List ℕ → Bool
 marksOk [] = true
 marksOk (c ∷ cs) = markOk c && marksOk cs
 
+-- the number that is tested: an extension's; 0 of any other field
+abbrev pub extOf : ℕ → ℕ → ℕ
+extOf c v = cond (eqb c ext) v 0
+
+-- the test of an extension's number in front of what follows it
+abbrev pub tested : ℕ → ℕ → Syntax → Syntax
+tested c v s = cond (eqb c ext) (atMost 30 v 299 s) s
+
 -- a field by its mark, and what follows its number
 abbrev pub line : Name → ℕ → (ℕ → Syntax) → Syntax
-line nm c k = field (signOf c) nm (widthOf c) k
+line nm c k = field (signOf c) nm (widthOf c) (λ v. tested c v (k v))
 
 -- the first name, and the others; no name where there is none left
 abbrev pub headName : List Name → Name

@@ -2,9 +2,10 @@
 ghost use mathlib.Core.Path.{_≡_};
 ghost use Prim.Native.Nat.{_%_, _^_, _<_};
 ghost use lib.Dec.{T};
-ghost use Rattle.runs.specs.Lines.{widthOf, sizeOf, shownOf, markOk};
+ghost use Rattle.runs.specs.Lines.{widthOf, sizeOf, shownOf, extOf, markOk};
 ghost use Rattle.runs.specs.Steps.{refusalIn, stored};
 use format::Refusal;
+use marks::EXT;
 
 pub mod marks;
 
@@ -36,6 +37,9 @@ pub fn step_refusal(step: Step) -> Refusal
 pub fn width_of(mark: u8) -> usize
     ensures { λ r. ⌜ r ≡ widthOf mark ⌝ }
 {
+    if mark == EXT {
+        return 9;
+    }
     if mark < 128 {
         return mark as usize;
     }
@@ -49,16 +53,27 @@ pub fn size_of(mark: u8) -> usize
     if 128 <= mark {
         return 4;
     }
-    if mark <= 8 {
+    let width = width_of(mark);
+    if width <= 8 {
         return 1;
     }
-    if mark <= 16 {
+    if width <= 16 {
         return 2;
     }
-    if mark <= 32 {
+    if width <= 32 {
         return 4;
     }
     8
+}
+
+// The number that is tested where a field's number is v: an extension's; 0 of any other field.
+pub fn ext_of(mark: u8, v: u64) -> u64
+    ensures { λ r. ⌜ r ≡ extOf mark v ⌝ }
+{
+    if mark == EXT {
+        return v;
+    }
+    0
 }
 
 // The number that a ledger has for the number v of a field: a signed one is widened to 32 bits.

@@ -1,5 +1,9 @@
-// The runs of fields that the tables are made of, each with its marks: a field's bits, and 128 more where it is signed.
+// The runs of fields that the tables are made of, each with its marks: a field's bits, and 128 more where it is signed;
+// a clock's extension has a mark of its own, since a body's reading tests its number.
 // A run stands here once, for both directions of the ledger; the comment above it names its fields in their order.
+
+// A clock's extension: 9 bits. A clock is three marks: 33, 6, EXT.
+pub const EXT: u8 = 73;
 
 // Id 0: satellite_id, reserved, position_system.
 pub const SATELLITE: [u8; 3] = [24, 7, 1];
@@ -30,16 +34,16 @@ pub const SYSTEM_ID: [u8; 1] = [32];
 pub const SYSTEM_COUNT: [u8; 2] = [6, 10];
 
 // new_delivery_system_id and time_of_application, or the obsolescent one's; a clock is its base, reserved and its ext.
-pub const SYSTEM: [u8; 4] = [32, 33, 6, 9];
+pub const SYSTEM: [u8; 4] = [32, 33, 6, EXT];
 
 // Id 2: association_type.
 pub const TYPE: [u8; 1] = [4];
 
 // leap59, leap61, pastleap59, pastleap61, the clock ncr, association_timestamp_seconds, association_timestamp_nanoseconds.
-pub const LEAP: [u8; 9] = [1, 1, 1, 1, 33, 6, 9, 64, 32];
+pub const LEAP: [u8; 9] = [1, 1, 1, 1, 33, 6, EXT, 64, 32];
 
 // reserved in place of the leap flags, and the same behind it.
-pub const NO_LEAP: [u8; 6] = [4, 33, 6, 9, 64, 32];
+pub const NO_LEAP: [u8; 6] = [4, 33, 6, EXT, 64, 32];
 
 // Id 3: beamhopping_time_plan_id, reserved.
 pub const PLAN: [u8; 2] = [32, 4];
@@ -51,10 +55,10 @@ pub const PLAN_LENGTH: [u8; 1] = [12];
 pub const MODE: [u8; 2] = [6, 2];
 
 // Two clocks: time_of_application and cycle_duration; in mode 0, dwell_duration and on_time.
-pub const CLOCKS: [u8; 6] = [33, 6, 9, 33, 6, 9];
+pub const CLOCKS: [u8; 6] = [33, 6, EXT, 33, 6, EXT];
 
 // Four clocks: grid_size, revisit_duration, sleep_time, sleep_duration.
-pub const GRID: [u8; 12] = [33, 6, 9, 33, 6, 9, 33, 6, 9, 33, 6, 9];
+pub const GRID: [u8; 12] = [33, 6, EXT, 33, 6, EXT, 33, 6, EXT, 33, 6, EXT];
 
 // reserved, and bit_map_size or current_slot.
 pub const SLOT: [u8; 2] = [1, 15];

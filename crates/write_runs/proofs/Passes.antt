@@ -11,13 +11,13 @@ use Rattle.format.specs.Digits.{valueAt}
 use Rattle.format.specs.Refusals.{refuse}
 use Rattle.format.specs.Syntax.{Name, Syntax}
 use Rattle.bits.proofs.Values.{valueAt-none, valueAt-lt}
-use Rattle.runs.specs.Lines.{line, run, widthOf, sizeOf, marksOk, headName}
+use Rattle.runs.specs.Lines.{line, run, widthOf, sizeOf, extOf, marksOk, headName}
 use Rattle.runs.specs.declared.Step.{Step}
 use Rattle.runs.specs.declared.Step.the-variants.{Done, Refused}
 use Rattle.runs.proofs.MarkLaws.{mark-facts, marks-at}
 use Rattle.runs.proofs.Stores.{digits-short}
 use Rattle.write_runs.specs.Went.{Around, Ran, Placed, Moved}
-use Rattle.write_runs.proofs.WentLaws.{line-done, line-no}
+use Rattle.write_runs.proofs.WentLaws.{line-done, line-no, line-damaged}
 use Rattle.write_runs.proofs.Runs.{Next, Along, lines, lines-next, lines-end, Balance, balance-next, balance-end, begin, turn, stop, ended}
 
 -- i fields are passed, of which the last has so many bits
@@ -54,8 +54,9 @@ module _ {body marks : List ℕ} {at place : ℕ} where
 
   module _ {here there width i w : ℕ} (st : Passed body at marks place here there width i) (more : i < length marks) (ew : w ≡ widthOf (getD marks i 0)) where
     -- one field more is there, or is not
-    pub pass-one : {z : ℕ} → T (marksOk marks) → z ≡ sizeOf (getD marks i 0) → here + w ≤ 8 * length body → Passed body at marks place (here + w) (there + z) w (i + 1)
-    pass-one {z} ok ez fits =
+    pub pass-one : {z : ℕ} → T (marksOk marks) → z ≡ sizeOf (getD marks i 0) → here + w ≤ 8 * length body → extOf (getD marks i 0) (valueAt body here w) ≤ 299
+        → Passed body at marks place (here + w) (there + z) w (i + 1)
+    pass-one {z} ok ez fits fine =
         let c = getD marks i 0 in
         let m = marks-at marks i ok more in
         let f = mark-facts c m in
@@ -64,7 +65,7 @@ module _ {body marks : List ℕ} {at place : ℕ} where
         let same : valueAt body (here + w - w) w ≡ v = ap (λ (p : ℕ). valueAt body p w) back in
         let one : i + 1 - 1 ≡ i = omega arith in
         let y : (nm : Name) (e : Around) (k : Next) → Ran body e (line nm c k) here there [] k [] (Done (here + w) (there + z) v) =
-        λ nm e k. record { to = line-done nm c k m ew ez fits refl (sym (digits-short [] there z _ (omega (arith, f .one)))) } in
+        λ nm e k. record { to = line-done nm c k m ew ez fits refl fine (sym (digits-short [] there z _ (omega (arith, f .one)))) } in
         record {
           along = λ nms. subst (λ (x : ℕ). Along (run nms 0 marks) (lines nms marks) body at place [] (here + w) (there + z) x (i + 1) []) (sym same)
               (turn (line (headName (drop i nms)) c) (st .along nms) (y (headName (drop i nms))) (λ k. lines-next nms marks _ i k more) refl);
@@ -81,6 +82,13 @@ module _ {body marks : List ℕ} {at place : ℕ} where
         let nm = headName (drop i nms) in
         let within = st .along nms .placed .within in
         stop (line nm c) (st .along nms) (λ e k. record { to = line-no body e here nm c k ew within h }) (λ k. lines-next nms marks _ i k more) refl e k k
+
+    pub pass-damaged : {x : ℕ} → here + w ≤ 8 * length body → x ≡ extOf (getD marks i 0) (valueAt body here w) → 299 < x
+        → (e : Around) (nms : List Name) (k : Next) → Ran body e (run nms 0 marks k) at place [] k [] (Refused (refuse 30 x 299))
+    pass-damaged fits q h e nms k =
+        let c = getD marks i 0 in
+        let nm = headName (drop i nms) in
+        rw q (stop (line nm c) (st .along nms) (λ e k. record { to = line-damaged body e here nm c k ew fits refl (omega (arith, q)) }) (λ k. lines-next nms marks _ i k more) refl e k k)
 
   -- all are passed
   pub pass-ends : {here there width i v : ℕ} → Passed body at marks place here there width i → i ≡ length marks → v ≡ valueAt body (here - width) width

@@ -5,11 +5,14 @@ ghost use mathlib.Core.List.{List, [], _∷_};
 ghost use Prim.Native.Nat.{ℕ, _-_, _*_, _^_, _≤_, _<_};
 ghost use lib.Dec.{T};
 ghost use lib.ListN.{length, getD};
-ghost use Rattle.format.specs.Digits.{digits};
+ghost use Rattle.format.specs.Digits.{digits, valueAt};
+ghost use Rattle.format.specs.Refusals.{refuse};
 ghost use Rattle.format.specs.Syntax.{Name, Syntax, need};
 ghost use Rattle.format.specs.Tables.{times};
-ghost use Rattle.runs.specs.Lines.{widthOf, markOk, marksOk, line, run, runOf};
+ghost use Rattle.bits.specs.Read.{Room};
+ghost use Rattle.runs.specs.Lines.{widthOf, extOf, markOk, marksOk, line, run, runOf};
 ghost use Rattle.runs.specs.Steps.{lastOf, stored};
+ghost use Rattle.runs.specs.declared.Step.the-variants.{Refused};
 ghost use Rattle.write_runs.specs.Went.{Around, Placed, Ran, Moved};
 use bits::put_be;
 use bits::put_byte;
@@ -19,6 +22,8 @@ use bits::put_word;
 use bits::value_at;
 use format::Refusal;
 use runs::Step;
+use runs::ext_of;
+use runs::marks::EXT;
 use runs::shown_of;
 use runs::size_of;
 use runs::width_of;
@@ -54,6 +59,28 @@ pub fn within(place: usize, n: usize) -> usize
     n
 }
 
+// The refusal of a clock's extension above 299.
+fn damaged(ext: u64) -> Step
+    ensures { λ r. ⌜ r ≡ Refused (refuse 30 ext 299) ⌝ }
+{
+    Step::Refused(Refusal {
+        number: 30,
+        need: ext as usize,
+        have: 299,
+    })
+}
+
+// The number that is tested of a field that is there; it is read only where there is a test.
+fn ext_at(body: &[u8], at: usize, mark: u8) -> u64
+    requires { ⌜ Room (now body) at (widthOf mark) ⌝ }
+    ensures { λ r. ⌜ r ≡ extOf mark (valueAt (now (body .entry)) at (widthOf mark)) ⌝ }
+{
+    if mark == EXT {
+        return value_at(body, at, 9);
+    }
+    0
+}
+
 // One field.
 fn write_line(body: &[u8], at: usize, mark: u8, out: &mut [u8], place: usize) -> Step
     requires { ⌜ Placed (now body) at place ⌝ }
@@ -73,6 +100,10 @@ fn write_line(body: &[u8], at: usize, mark: u8, out: &mut [u8], place: usize) ->
         });
     }
     let v = value_at(body, at, width);
+    let ext = ext_of(mark, v);
+    if 299 < ext {
+        return damaged(ext);
+    }
     let size = size_of(mark);
     put(out, place, size, shown_of(mark, v));
     Step::Done {
@@ -82,7 +113,7 @@ fn write_line(body: &[u8], at: usize, mark: u8, out: &mut [u8], place: usize) ->
     }
 }
 
-// A run of fields that are not stored: only the last one's number is taken.
+// A run of fields that are not stored: only the last one's number is taken, and those that are tested.
 fn pass_run(body: &[u8], at: usize, marks: &[u8], place: usize) -> Step
     requires { ⌜ Placed (now body) at place ⌝ }
     requires { ⌜ T (marksOk (now marks)) ⌝ }
@@ -104,6 +135,10 @@ fn pass_run(body: &[u8], at: usize, marks: &[u8], place: usize) -> Step
                 need: here + width,
                 have,
             });
+        }
+        let ext = ext_at(body, here, mark);
+        if 299 < ext {
+            return damaged(ext);
         }
         here += width;
         there += size_of(mark);
