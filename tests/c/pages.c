@@ -1,8 +1,9 @@
-/* Buffers against unreadable pages: pages BODIES LEDGERS PLAINS IDS CASES_2 LEDGERS_2, files with one case a line.
- * BODIES and LEDGERS are the replay list with the Rust's answers, PLAINS what tests/replay/decode.py makes of the
- * ledgers, IDS what tests/replay/ids.py lists of the bodies; every tenth case and the first 60 are tried. CASES_2 and
- * LEDGERS_2 are tests/replay/edition_2.txt and damaged_2.txt, tried whole. None comes from the code under test. A byte
- * touched outside a buffer ends the program.
+/* Buffers against unreadable pages: pages BODIES LEDGERS PLAINS IDS CASES_2 LEDGERS_2 STORED, files with one case a
+ * line. BODIES and LEDGERS are the replay list with its answers, the Rust's but for those refused by 30 (S-23), which
+ * are tests/replay/read.py's; PLAINS is what tests/replay/decode.py makes of the ledgers, IDS what tests/replay/ids.py
+ * lists of the bodies; every tenth case, the first 110 and all refused by 30 are tried. CASES_2, LEDGERS_2 and STORED
+ * are tests/replay/edition_2.txt, damaged_2.txt and stored.txt, tried whole. None comes from the code under test. A
+ * byte touched outside a buffer ends the program.
  */
 #define _DEFAULT_SOURCE
 #include <ctype.h>
@@ -343,6 +344,18 @@ static void ledger_2(const char *text)
     rooms(&READ, given[0], ledger, n, w.bytes == NULL ? w : result(given + 1, w.size - 1));
 }
 
+/* a ledger from before S-23, the table id with the body that it gives, and how every call refuses that body now */
+static void stored_before(const char *text)
+{
+    static const Call *const calls[] = {&WRITE, &WRITE_2, &PLAIN, &KEPT, &IDS};
+    static uint8_t given[10000], none[1];
+    Want body = answer_of(behind(text), given), w = answer_of(behind(behind(text)), none);
+    check(body.bytes != NULL && w.number == 30 && w.need > 299 && w.need < 512 && w.have == 299, "a refusal by 30");
+    ledger_2(text);
+    for (size_t i = 0; i < sizeof calls / sizeof *calls; i++)
+        rooms(calls[i], given[0], given + 1, body.size - 1, w);
+}
+
 static void lines_of(FILE *file, void (*tried)(const char *), unsigned long least)
 {
     static char text[40000];
@@ -354,9 +367,9 @@ static void lines_of(FILE *file, void (*tried)(const char *), unsigned long leas
 int main(int argc, char **argv)
 {
     static char text[4][20000];
-    FILE *file[6];
-    for (int i = 0; i < 6; i++)
-        if (argc != 7 || (file[i] = fopen(argv[i + 1], "r")) == NULL)
+    FILE *file[7];
+    for (int i = 0; i < 7; i++)
+        if (argc != 8 || (file[i] = fopen(argv[i + 1], "r")) == NULL)
             return 2;
     in_area = fenced(SPAN);
     out_area = fenced(SPAN);
@@ -366,11 +379,12 @@ int main(int argc, char **argv)
     many_ids();
     lines_of(file[4], edition_2, 400);
     lines_of(file[5], ledger_2, 700);
+    lines_of(file[6], stored_before, 300);
     line = 0;
     while (fgets(text[0], sizeof text[0], file[0])) {
         for (int i = 1; i < 4; i++)
             check(fgets(text[i], sizeof text[i], file[i]) != NULL, "a line is missing");
-        if (++line <= 60 || line % 10 == 0)
+        if (++line <= 110 || line % 10 == 0 || strncmp(text[1], "R 30 ", 5) == 0)
             stored(text[0], text[1], text[2], text[3]);
     }
     printf("%lu checks\n", checks);

@@ -8,7 +8,10 @@ Use: decode.py LEDGER-HEX               table id and plain body (kept body of an
 
 The check takes each accepted case and compares the plain body decoded here with the one that
 the Rust's own writer gives, the ledger of that plain body with the ledger it came from, and the
-ledger's length with its bound. Refusals are compared with document 01's table of needs.
+ledger's length with its bound. Refusals are compared with document 01's table of needs and with S-23.
+
+The Rust knows nothing of 30 (S-23), and the ledger reader never says it: ledgers with an extension above 299
+are decoded like others. Of fresh cases, those that 30 refuses now stand for such stored ledgers.
 """
 
 import os
@@ -18,6 +21,7 @@ sys.dont_write_bytecode = True
 sys.path.insert(0, os.path.dirname(os.path.abspath(__file__)))
 from ledgers import Fault, answer, read_ledger  # noqa: E402
 from oracle import oracle, stored  # noqa: E402
+from read import BY_30, LARGEST, now_of  # noqa: E402
 
 
 def decode(ledger):
@@ -27,11 +31,11 @@ def decode(ledger):
 
 NEEDS = {3: [24], 4: [344], 5: [76], 9: [152], 10: [96], 11: [32], 13: [192], 15: [64],
          16: [120], 17: [56], 18: [56], 19: [248, 344], 20: [728]}
-IDS = {1: (1, 3, 4), 2: (2, 4), 3: (0,), 4: (0,), 5: (1,), 6: (1,), 7: (1,), 8: (1,), 9: (2,)}
+IDS = {1: (1, 3, 4), 2: (2, 4), 3: (0,), 4: (0,), 5: (1,), 6: (1,), 7: (1,), 8: (1,), 9: (2,), 30: (1, 2, 3)}
 
 
 def refusal_fits(case, line):
-    """Whether a refusal's numbers can stand in document 01's table for this case."""
+    """Whether a refusal's numbers can stand in document 01's table, or behind S-23, for this case."""
     number, need, have = map(int, line.split()[1:])
     size, table_id = len(case) - 1, case[0]
     if number == 21:
@@ -43,6 +47,8 @@ def refusal_fits(case, line):
         return have == 8 * size
     if number == 2:
         return (size, need, have) == (0, 1, 0)
+    if number == 30:
+        return have == LARGEST and need < 512
     if number == 14:
         return have == 0 and need % 8 == 0
     if number in (6, 7, 8):
@@ -79,8 +85,9 @@ def check(name, cases, lines=None):
         wrong.append((len(lines), "number of lines"))
     for i, what in wrong[:10]:
         print(f"{name}, case {i + 1}: {what}")
+    by_30 = sum(now_of(case, line).startswith(BY_30) for case, line in zip(cases, lines))
     print(f"{name}: {len(cases)} cases, {len(accepted)} accepted and decoded, "
-          f"{len(cases) - len(accepted)} refused, {len(wrong)} differences")
+          f"{len(cases) - len(accepted)} refused, {by_30} refused by 30 now, {len(wrong)} differences")
     return len(wrong)
 
 

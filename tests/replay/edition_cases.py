@@ -1,12 +1,35 @@
 """Draws cases for the two editions: a table id byte and a body, most of them plans.
 
 Plans come in all modes, with remarks behind their fields, with ends within, at and past the data, too short,
-cut, and followed by leftover bytes. Most bodies are short; some have 4,096 bytes or a few more or less.
+cut, and followed by leftover bytes. Most bodies are short; some have 4,096 bytes or a few more or less. In one
+body of eight some clocks have an extension above 299, which S-23 refuses.
 """
 
 import random
 
 from ledgers import RAW
+
+LARGEST, WIDEST = 299, 511
+
+
+class Draw(random.Random):
+    """Draws for one case after the other; what is drawn for extensions changes nothing else of a case."""
+
+    def __init__(self, seed, any_extension=False):
+        super().__init__(seed)
+        self.side, self.any_extension, self.beyond = random.Random(seed), any_extension, 0
+
+    def next_body(self):
+        """Whether the next body may have extensions above 299, and then one clock in how many has."""
+        self.beyond = self.side.choice((0, 0, 0, 0, 0, 0, 0, self.side.choice((2, 2, 4, 30))))
+
+    def extension(self, drawn):
+        """The extension for one that was drawn as 9 bits: 0 and 299, or 300 and 511, more often than others."""
+        if self.any_extension:
+            return drawn
+        if self.beyond and self.side.randrange(self.beyond) == 0:
+            return self.side.choice((LARGEST + 1, WIDEST, self.side.randint(LARGEST + 1, WIDEST)))
+        return drawn if drawn <= LARGEST else drawn - (WIDEST - LARGEST)
 
 
 def number(value):
@@ -24,6 +47,16 @@ def content(draw, size):
     return bytes(size) if kind == 0 else b"\xff" * size if kind == 1 else draw.randbytes(size)
 
 
+def clocks(draw, size, first=0, every=6):
+    """Content in which clocks of 6 bytes stand from a place on, one in so many bytes."""
+    found = bytearray(content(draw, size))
+    for end in range(first + 6, size + 1, every):
+        last = found[end - 2:end]
+        value = int.from_bytes(last, "big")
+        found[end - 2:end] = number(value & ~WIDEST | draw.extension(value & WIDEST))
+    return found
+
+
 def bitmap(draw, size=None):
     """A bitmap's fields and slots; padding bits stay as they were drawn in two of three."""
     size = draw.choice((0, 1, 3, 7, 8, 9, 16, few(draw), few(draw, 300))) if size is None else size
@@ -38,7 +71,7 @@ def own_bytes(draw, mode):
     """What a mode has behind the two clocks."""
     if mode == 1:
         return bitmap(draw)
-    return content(draw, few(draw) if mode == RAW else 12 + 6 * mode)
+    return content(draw, few(draw)) if mode == RAW else clocks(draw, 12 + 6 * mode)
 
 
 def laid(draw, mode, behind, length):
@@ -46,7 +79,7 @@ def laid(draw, mode, behind, length):
     identifier = draw.choice((bytes(3) + draw.randbytes(1), draw.randbytes(4)))
     reserved = draw.choice((0, draw.getrandbits(4))), draw.choice((0, draw.getrandbits(6)))
     head = number(reserved[0] << 12 | length) + bytes([reserved[1] << 2 | mode])
-    return identifier + head + content(draw, 12) + behind
+    return identifier + head + clocks(draw, 12) + behind
 
 
 def whole_plan(draw):
@@ -130,7 +163,8 @@ def fragment(draw):
         parts[-1][-2:] = number(draw.choice((0, draw.getrandbits(6))) << 10 | count)
         if size == 4 and not first:
             parts[-1][-2] &= 0x7F
-        parts += [content(draw, size * count), bytearray(2)]
+        listed = content(draw, 4 * count) if size == 4 else clocks(draw, 10 * count, 4, 10)
+        parts += [listed, bytearray(2)]
     return b"".join(parts[:-1])
 
 
@@ -140,7 +174,7 @@ def fragments(draw):
 
 def association(draw):
     kind = draw.choice((0x10, 0x10, 0, draw.getrandbits(4) << 4))
-    return bytes([kind | draw.getrandbits(4)]) + content(draw, 18) + draw.randbytes(few(draw))
+    return bytes([kind | draw.getrandbits(4)]) + clocks(draw, 18, 0, 18) + draw.randbytes(few(draw))
 
 
 def ephemeris(draw):
@@ -177,6 +211,7 @@ def marred(draw, body):
 
 def case(draw):
     """One case as bytes."""
+    draw.next_body()
     if draw.randrange(100) < 86:
         table_id, body = 3, long_body(draw) if draw.randrange(50) == 0 else short_body(draw)
     else:
@@ -187,7 +222,8 @@ def case(draw):
     return bytes([table_id]) + body
 
 
-def make(seed, count):
-    draw = random.Random(seed)
+def make(seed, count, any_extension=False):
+    """The cases of a seed; with any extension as they were drawn before S-23, evenly over 9 bits."""
+    draw = Draw(seed, any_extension)
     for _ in range(count):
         yield case(draw)

@@ -1,8 +1,9 @@
 #!/usr/bin/env python3
-"""Both editions of the ledger (request S-18): cases, ledgers, bodies, damage, and the stored lists.
+"""Both editions of the ledger (requests S-18 and S-23): cases, ledgers, bodies, damage, and the stored lists.
 
 Use: editions.py --make SEED COUNT         COUNT cases, most of them plans
      editions.py --write EDITION < CASES   each case's ledger, or its refusal
+     editions.py --before EDITION < CASES  the same as it was before S-23
      editions.py --body EDITION < CASES    each case's plain body (1) or kept body (2), or its refusal
      editions.py --damage SEED < LEDGERS   a few damaged versions of each ledger
      editions.py --forms < LEDGERS         how often the reader accepts, and refuses by each number and form
@@ -11,6 +12,9 @@ Use: editions.py --make SEED COUNT         COUNT cases, most of them plans
 
 A case is a line of hexadecimal: the table id byte, then the body, of any length. read.py writes the ledgers,
 ledgers.py reads them; the two share no code, and the check holds one to the other by the papers' demands.
+Ledgers that were written before S-23 are read as ever, though their bodies may now be refused by 30; so the
+reader is held to the reading of bodies as it was before (`Before`). What the check does beyond S-18 is in
+extensions.py.
 """
 
 import os
@@ -22,9 +26,10 @@ sys.dont_write_bytecode = True
 sys.path.insert(0, os.path.dirname(os.path.abspath(__file__)))
 from edition_cases import make  # noqa: E402
 from edition_damage import damage, versions  # noqa: E402
+from extensions import check_body_slips, check_stored  # noqa: E402
 from ledgers import FORMS, RAW, Fault, answer, opened, read_ledger  # noqa: E402
 from oracle import store, stored  # noqa: E402
-from read import Refused, body_as, ledger  # noqa: E402
+from read import BY_30, Before, Body, Refused, body_as, ledger, now_of  # noqa: E402
 from samples_2 import BODIES, DWELLS, EXACT, GRIDS, LEDGERS, SLOTSES, entry, plans  # noqa: E402
 from slips import SLIPS, Unheld  # noqa: E402
 
@@ -33,21 +38,21 @@ SHORT = 100
 LEAST = 3
 
 # How many drawn lines of each outcome the stored lists take, behind the picked ones.
-CASES_KEPT = {"accepted": 275, "accepted, other id": 35, "refused": 35}
+CASES_KEPT = {"accepted": 275, "accepted, other id": 35, "refused": 35, "by 30": 40, "by 30, other id": 8}
 LEDGERS_KEPT = {"accepted": 90, "23": 120, "24": 10, "25": 75, **dict.fromkeys(FORMS, 50)}
 
 
-def written(case, edition):
+def written(case, edition, rules=Body):
     """The ledger of a case given as bytes, or its refusal."""
     try:
-        return ledger(case[0], case[1:], edition).hex() if case else "no input"
+        return ledger(case[0], case[1:], edition, rules).hex() if case else "no input"
     except Refused as refused:
         return str(refused)
 
 
-def body_line(case, edition):
+def body_line(case, edition, rules=Body):
     try:
-        return body_as(case[0], case[1:], edition).hex() or "-" if case else "no input"
+        return body_as(case[0], case[1:], edition, rules).hex() or "-" if case else "no input"
     except Refused as refused:
         return str(refused)
 
@@ -78,56 +83,69 @@ def failed(tests):
     return [name for name, holds in tests.items() if not holds]
 
 
-def edition_problems(table_id, data, edition):
+def edition_problems(table_id, data, edition, rules):
     """What does not hold between an accepted body and its ledger in one edition."""
-    made, body = ledger(table_id, data, edition), body_as(table_id, data, edition)
+    made, body = ledger(table_id, data, edition, rules), body_as(table_id, data, edition, rules)
     name = f"edition {edition}: "
     return failed({
         name + "the ledger read back": read_ledger(made) == (edition, table_id, body),
-        name + "the ledger of the body given back": ledger(table_id, body, edition) == made,
-        name + "the body of the body given back": body_as(table_id, body, edition) == body,
+        name + "the ledger of the body given back": ledger(table_id, body, edition, rules) == made,
+        name + "the body of the body given back": body_as(table_id, body, edition, rules) == body,
         name + "the lengths": len(made) <= 6 + 2 * len(data) and len(body) <= len(data) <= 4096,
     })
 
 
-def body_problems(case):
-    """What does not hold of a case: in each edition, and between the two."""
+def problems_by(case, rules):
+    """What does not hold of a case that is read by these rules: in each edition, and between the two."""
     table_id, data = case[0], case[1:]
-    lines = [written(case, edition) for edition in (1, 2)]
+    lines = [written(case, edition, rules) for edition in (1, 2)]
     if any(map(is_refusal, lines)):
-        bodies = [body_line(case, edition) for edition in (1, 2)]
+        bodies = [body_line(case, edition, rules) for edition in (1, 2)]
         return failed({"one refusal in both editions": len({*lines, *bodies}) == 1})
     first, second = map(bytes.fromhex, lines)
-    plain, kept = (body_as(table_id, data, edition) for edition in (1, 2))
-    problems = [part for edition in (1, 2) for part in edition_problems(table_id, data, edition)]
+    plain, kept = (body_as(table_id, data, edition, rules) for edition in (1, 2))
+    problems = [part for edition in (1, 2) for part in edition_problems(table_id, data, edition, rules)]
     if table_id == 3:
         same = without_edition_2(second) == first[4:]
     else:
         same = first[:2] + second[2:3] + first[3:] == second and plain == kept
     return problems + failed({
         "edition 1 in edition 2": same,
-        "edition 1 of the kept body": ledger(table_id, kept, 1) == first and body_as(table_id, kept, 1) == plain,
-        "edition 2 of the plain body": body_as(table_id, plain, 2) == plain,
+        "edition 1 of the kept body": ledger(table_id, kept, 1, rules) == first,
+        "plain body of the kept body": body_as(table_id, kept, 1, rules) == plain,
+        "kept body of the plain body": body_as(table_id, plain, 2, rules) == plain,
     })
+
+
+def body_problems(case):
+    """What does not hold of a case as it is read now, and as before S-23 if that is another reading."""
+    now, before = written(case, 1), written(case, 1, Before)
+    problems = failed({"30 at the first extension above 299 alone": now == now_of(case.hex(), before)})
+    return problems + problems_by(case, Body) + (problems_by(case, Before) if now != before else [])
 
 
 def has_body(given):
     """Whether this is the ledger of some body. If so, the body laid out from its fields has it; 28 is not asked."""
     try:
         edition, table_id, body = read_ledger(given, Unheld)
-        return ledger(table_id, body, edition) == given
+        return ledger(table_id, body, edition, Before) == given
     except (Fault, Refused):
         return False
 
 
 def ledger_problems(given):
-    """What does not hold of any byte string: it is accepted exactly if it is the ledger of the body it gives."""
+    """What does not hold of any byte string: it is accepted exactly if it is the ledger of the body it gives.
+
+    The body may be one that was accepted before S-23; it then is refused by 30 now.
+    """
     try:
         edition, table_id, body = read_ledger(given)
     except Fault:
         return failed({"refused, but a ledger": not has_body(given)})
-    return failed({"accepted, but not the ledger of the body given": ledger(table_id, body, edition) == given,
-                   "the body of the body given": body_as(table_id, body, edition) == body})
+    case = bytes([table_id]) + body
+    return failed({"accepted, but not the ledger of the body given": written(case, edition, Before) == given.hex(),
+                   "the body of the body given": body_as(table_id, body, edition, Before) == body,
+                   "the body given, now": written(case, edition) == now_of(case.hex(), given.hex())})
 
 
 def problems_of(holds, given):
@@ -178,15 +196,18 @@ def chosen(found, lines, kept, line_of):
 
 def drawn_cases():
     for case in make(SEED, 20000):
-        accepted = "accepted" if case[0] == 3 else "accepted, other id"
-        yield "refused" if is_refusal(written(case, 2)) else accepted, case
+        line, other = written(case, 2), "" if case[0] == 3 else ", other id"
+        if line.startswith(BY_30):
+            yield "by 30" + other, case
+        else:
+            yield "refused" if is_refusal(line) else "accepted" + other, case
 
 
 def drawn_ledgers():
-    """Damaged ledgers of short cases; one of six is of edition 1."""
+    """Damaged ledgers of short cases, as they were written before S-23; one of six is of edition 1."""
     draw = random.Random(SEED)
-    for number, case in enumerate(make(SEED + 1, 20000)):
-        line = written(case, 1 if number % 6 == 0 else 2)
+    for number, case in enumerate(make(SEED + 1, 20000, any_extension=True)):
+        line = written(case, 1 if number % 6 == 0 else 2, Before)
         if len(case) <= SHORT and not is_refusal(line):
             yield from ((outcome(given), given) for given in versions(draw, bytes.fromhex(line)))
 
@@ -217,7 +238,8 @@ def check_cases(name="edition_2.txt"):
         case = bytes.fromhex(line.split(" ")[0])
         found = failed({"the stored answer": case_line(case) == line}) + problems_of(body_problems, case)
         problems += [f"line {number}: {what}" for what in found]
-        counts["refused" if is_refusal(written(case, 2)) else "accepted"] += 1
+        given = written(case, 2)
+        counts["refused by 30" if given.startswith(BY_30) else "refused" if is_refusal(given) else "accepted"] += 1
     return report(name, f"{len(lines)} cases, {len(picked)} of them picked; {counted(counts)}", problems)
 
 
@@ -272,12 +294,12 @@ def check_bodies(name="bodies.txt"):
 
 
 def check_fresh(seed, count):
-    """Cases of this seed, their ledgers in both editions, and damaged versions of these."""
+    """Cases of this seed, their ledgers in both editions, as before S-23, and damaged versions of these."""
     draw, problems, cases, ledgers = random.Random(seed), [], Counter(), Counter()
     for number, case in enumerate(make(seed, count), 1):
-        found, lines = problems_of(body_problems, case), [written(case, edition) for edition in (1, 2)]
-        cases[f"refused by {lines[0].split()[1]}" if is_refusal(lines[0]) else "accepted"] += 1
-        for line in lines:
+        found, now = problems_of(body_problems, case), written(case, 1)
+        cases[f"refused by {now.split()[1]}" if is_refusal(now) else "accepted"] += 1
+        for line in [written(case, edition, Before) for edition in (1, 2)]:
             for given in [] if is_refusal(line) else versions(draw, bytes.fromhex(line)):
                 found += problems_of(ledger_problems, given)
                 ledgers[outcome(given)] += 1
@@ -299,6 +321,7 @@ def given_lines():
 
 def check(numbers):
     wrong = check_cases() + check_ledgers() + check_small() + check_bodies()
+    wrong += report(*check_body_slips()) + report(*check_stored())
     if numbers:
         wrong += check_fresh(*numbers)
     sys.exit(1 if wrong else 0)
@@ -306,9 +329,9 @@ def check(numbers):
 
 def run(command, numbers):
     """Gives the output lines of a command, or None if there is no such command."""
-    if command in ("--write", "--body") and numbers in ([1], [2]):
-        line_of = written if command == "--write" else body_line
-        return (line_of(bytes.fromhex(case), *numbers) for case in given_lines())
+    if command in ("--write", "--before", "--body") and numbers in ([1], [2]):
+        line_of, rules = body_line if command == "--body" else written, Before if command == "--before" else Body
+        return (line_of(bytes.fromhex(case), *numbers, rules) for case in given_lines())
     if command == "--make" and len(numbers) == 2:
         return (case.hex() for case in make(*numbers))
     if command == "--damage" and len(numbers) == 1:

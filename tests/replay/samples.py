@@ -1,6 +1,6 @@
-"""Document 01's samples and some edges of its reading: (name, table id, body, output line).
+"""Document 01's samples, some edges of its reading, and of request S-23: (name, table id, body, output line).
 
-The lines were worked out by hand from document 01, not taken from the oracle.
+The lines were worked out by hand from documents 01 and 02, not taken from the oracle.
 """
 
 ZERO = bytes(4096)
@@ -29,7 +29,52 @@ def centred(latitude, edition=1):
                   "0000 00 0000 00 0000", edition)
 
 
-CLOCK = "0000000000000000 00 0000"
+def clock(extension):
+    """A clock of zeros but for its extension, in the body."""
+    return extension.to_bytes(6, "big")
+
+
+def clocks(*extensions):
+    return b"".join(map(clock, extensions))
+
+
+def clocks_listed(*extensions):
+    return "".join(f"0000000000000000 00 {extension:04x}" for extension in extensions)
+
+
+def timed(length, mode, *extensions, rest=b""):
+    """A plan of zeros but for its length, its mode and its clocks, with the bytes behind them."""
+    return bytes(4) + length.to_bytes(2, "big") + bytes([mode]) + clocks(*extensions) + rest
+
+
+def timed_listed(mode, *extensions, rest=""):
+    return PLAN + f"{mode:02x}" + clocks_listed(*extensions) + rest
+
+
+def systems(*extensions):
+    """A list of new or obsolescent systems: r6, the count, and each with its id and its clock."""
+    return len(extensions).to_bytes(2, "big") + b"".join(bytes(4) + clock(e) for e in extensions)
+
+
+def systems_listed(*extensions):
+    return f"00 {len(extensions):04x}" + "".join("00000000" + clocks_listed(e) for e in extensions)
+
+
+def cell(new=(), old=()):
+    """A fragment of zeros without centre and ids, with new and obsolescent systems."""
+    return bytes(6) + systems(*new) + systems(*old)
+
+
+def cell_listed(new=(), old=()):
+    return "00000000 00 00 00 0000" + systems_listed(*new) + systems_listed(*old)
+
+
+def associated(extension, first=0, size=19):
+    """A time association of zeros but for its first byte and its clock."""
+    return (bytes([first]) + clock(extension) + bytes(12))[:size]
+
+
+CLOCK = clocks_listed(0)
 PLAN = "00000000 00 00"
 P3 = bytes.fromhex("00000700012080")
 P3_LINE = "000e0100000100000007000001200100"
@@ -74,6 +119,100 @@ SAMPLES = [
      listed(3, "0001" + PLAN + "01" + CLOCK * 2 + "00 0003 00 0002 e0")),
     ("over the limit before empty list", 0, bytes(4097), "R 21 4097 4096"),
 ]
+
+TIME = "0000000000000000 00000000"
+FULL = b"\xff" * 6
+
+# S-23: an extension above 299 is refused right where it stands, and what has no clock is not tested.
+EXTENSIONS = [
+    ("id 2, 299", 2, associated(299), listed(2, "00 00" + clocks_listed(299) + TIME)),
+    ("id 2, 300", 2, associated(300), "R 30 300 299"),
+    ("id 2, 511", 2, associated(511), "R 30 511 299"),
+    ("id 2, 299, reserved bits set", 2, associated(63 << 9 | 299),
+     listed(2, "00 00 0000000000000000 3f 012b" + TIME)),
+    ("id 2, 300, leap flags", 2, associated(300, 0x15), "R 30 300 299"),
+    ("id 2, 300, 18 bytes", 2, associated(300, 0, 18), "R 9 152 144"),
+    ("id 2, 300, 4,097 bytes", 2, associated(300) + bytes(4078), "R 21 4097 4096"),
+    ("id 2, bytes behind", 2, associated(0) + FULL, listed(2, "00 00" + CLOCK + TIME)),
+    # Fragments: the size of a list is tested before its clocks.
+    ("id 1, 299 in both lists", 1, cell([299, 299], [0, 299]), listed(1, "0001" + cell_listed([299, 299], [0, 299]))),
+    ("new system, 300", 1, cell([300]), "R 30 300 299"),
+    ("second new system, 511", 1, cell([299, 511]), "R 30 511 299"),
+    ("third new system, 301", 1, cell([0, 0, 301, 302]), "R 30 301 299"),
+    ("obsolescent system, 300", 1, cell([], [300]), "R 30 300 299"),
+    ("second obsolescent system, 400", 1, cell([299], [0, 400]), "R 30 400 299"),
+    ("new system, 300, the second missing", 1, bytes(6) + systems(300, 300)[:12], "R 7 160 80"),
+    ("new system, 300, its last byte missing", 1, bytes(6) + systems(300)[:11], "R 7 80 72"),
+    ("new system, 300, nothing behind", 1, bytes(6) + systems(300), "R 30 300 299"),
+    ("new system, 299, nothing behind", 1, bytes(6) + systems(299), "R 1 150 144"),
+    ("obsolescent system, 300, the second missing", 1, cell([0], [300, 300])[:-10], "R 8 160 80"),
+    ("new system, 300, obsolescent ones missing", 1, cell([300], [300, 300])[:-10], "R 30 300 299"),
+    ("new system, 300, then obsolescent 400", 1, cell([300], [400]), "R 30 300 299"),
+    ("second fragment, 300", 1, cell([299]) + cell([], [300]), "R 30 300 299"),
+    ("300, then half a fragment", 1, cell([300]) + bytes(5), "R 30 300 299"),
+    ("ids missing, 300 among the bytes there", 1, bytes(5) + b"\x09" + systems(300), "R 6 288 96"),
+    ("ids and leftovers full", 1, bytes(4) + b"\0\x02" + b"\xff" * 8 + systems(0) + systems() + FULL[:4],
+     listed(1, "0001 00000000 00 00 00 0002 ffffffff ffffffff" + systems_listed(0) + systems_listed())),
+    # Plans, mode 0.
+    ("mode 0, 299", 3, timed(25, 0, 299, 299, 299, 299), listed(3, "0001" + timed_listed(0, 299, 299, 299, 299))),
+    ("mode 0, application 300", 3, timed(25, 0, 300, 0, 0, 0), "R 30 300 299"),
+    ("mode 0, cycle 301", 3, timed(25, 0, 299, 301, 0, 0), "R 30 301 299"),
+    ("mode 0, dwell 302", 3, timed(25, 0, 299, 299, 302, 0), "R 30 302 299"),
+    ("mode 0, on time 303", 3, timed(25, 0, 299, 299, 299, 303), "R 30 303 299"),
+    ("mode 0, 511 and 300", 3, timed(25, 0, 0, 511, 300, 300), "R 30 511 299"),
+    ("mode 0, dwell 300, a byte missing", 3, timed(25, 0, 0, 0, 300, 300)[:-1], "R 10 96 88"),
+    ("mode 0, cycle 300, all behind missing", 3, timed(25, 0, 0, 300), "R 30 300 299"),
+    ("application 300, a byte missing", 3, timed(25, 0, 300)[:-1], "R 1 104 96"),
+    ("application 300, all behind missing", 3, timed(25, 0, 300), "R 30 300 299"),
+    ("application 299, all behind missing", 3, timed(25, 0, 299), "R 1 137 104"),
+    ("application 300, cycle cut", 3, timed(25, 0, 300, 300)[:-1], "R 30 300 299"),
+    ("cycle 300, a byte missing", 3, timed(25, 0, 0, 300)[:-1], "R 1 152 144"),
+    ("mode 0, length 24, on time 300", 3, timed(24, 0, 0, 0, 0, 300), "R 30 300 299"),
+    ("mode 0, length 0, application 300", 3, timed(0, 0, 300, 0, 0, 0), "R 30 300 299"),
+    # Mode 1.
+    ("mode 1, 299", 3, timed(18, 1, 299, 299, rest=b"\0\x08\0\0\xff"),
+     listed(3, "0001" + timed_listed(1, 299, 299, rest="00 0008 00 0000 ff"))),
+    ("mode 1, application 300", 3, timed(18, 1, 300, 0, rest=b"\0\x08\0\0\xff"), "R 30 300 299"),
+    ("mode 1, cycle 300, head missing", 3, timed(18, 1, 0, 300), "R 30 300 299"),
+    ("mode 1, cycle 300, slots missing", 3, timed(18, 1, 0, 300, rest=b"\0\x08\0\0"), "R 30 300 299"),
+    ("mode 1, all full behind the clocks", 3, timed(4095, 1, 0, 0, rest=b"\0\x30\xff\xff" + FULL),
+     listed(3, "0001" + timed_listed(1, 0, 0, rest="00 0030 01 7fff ffffffffffff"))),
+    # Mode 2.
+    ("mode 2, 299", 3, timed(37, 2, *[299] * 6), listed(3, "0001" + timed_listed(2, *[299] * 6))),
+    ("mode 2, application 300", 3, timed(37, 2, 300, 0, 0, 0, 0, 0), "R 30 300 299"),
+    ("mode 2, cycle 300", 3, timed(37, 2, 0, 300, 0, 0, 0, 0), "R 30 300 299"),
+    ("mode 2, grid 301", 3, timed(37, 2, 0, 0, 301, 0, 0, 0), "R 30 301 299"),
+    ("mode 2, revisit 302", 3, timed(37, 2, 0, 0, 0, 302, 0, 0), "R 30 302 299"),
+    ("mode 2, sleep time 303", 3, timed(37, 2, 0, 0, 0, 0, 303, 0), "R 30 303 299"),
+    ("mode 2, sleep duration 304", 3, timed(37, 2, 0, 0, 0, 0, 0, 304), "R 30 304 299"),
+    ("mode 2, grid 300, a byte missing", 3, timed(37, 2, 0, 0, 300, 0, 0, 0)[:-1], "R 13 192 184"),
+    ("mode 2, length 36, sleep duration 511", 3, timed(36, 2, 0, 0, 0, 0, 0, 511), "R 30 511 299"),
+    # Mode 3: both clocks, but not the raw bytes.
+    ("mode 3, application 300", 3, timed(13, 3, 300, 0), "R 30 300 299"),
+    ("mode 3, cycle 300", 3, timed(13, 3, 299, 300), "R 30 300 299"),
+    ("mode 3, cycle 511, past the data", 3, timed(4095, 3, 0, 511), "R 30 511 299"),
+    ("mode 3, length 12, cycle 300", 3, timed(12, 3, 0, 300), "R 30 300 299"),
+    ("mode 3, 299, raw bytes full", 3, timed(25, 3, 299, 299, rest=FULL * 2),
+     listed(3, "0001" + timed_listed(3, 299, 299, rest="000c" + "ff" * 12))),
+    # Filler, leftovers, several plans.
+    ("filler full", 3, timed(37, 0, 0, 0, 0, 0, rest=FULL * 2), P8_LINE),
+    ("filler full, past the data", 3, timed(4095, 0, 0, 0, 0, 0, rest=FULL * 4), P8_LINE),
+    ("5 left over, full", 3, timed(25, 0, 0, 0, 0, 0, rest=FULL[:5]), P8_LINE),
+    ("second plan, application 300", 3, timed(25, 0, 0, 0, 0, 0) + timed(13, 3, 300, 0), "R 30 300 299"),
+    ("second plan, cycle 511", 3, timed(13, 3, 299, 299) + timed(13, 3, 299, 511), "R 30 511 299"),
+    ("length 24, then 300", 3, timed(24, 0, 0, 0, 0, 0) + timed(13, 3, 300, 0), "R 14 8 0"),
+    ("cycle 300, then length 12", 3, timed(13, 3, 0, 300) + timed(12, 3, 0, 0), "R 30 300 299"),
+    ("a plan with 300 within another's raw bytes", 3, timed(32, 3, 0, 0, rest=timed(13, 3, 300, 300)),
+     listed(3, "0001" + timed_listed(3, 0, 0, rest="0013" + timed(13, 3, 300, 300).hex()))),
+    # Long bodies, the last clock at fault.
+    ("132 plans, the last on time 300", 3, timed(25, 0, 0, 0, 0, 0) * 131 + timed(25, 0, 0, 0, 0, 300), "R 30 300 299"),
+    ("408 new systems, the last 511", 1, cell([299] * 407 + [511]), "R 30 511 299"),
+    # No clocks.
+    ("id 0, elements full", 0, b"\0\0\0\x01" + b"\xff" * 43, listed(0, "0001 00000000 00 01" + "ff" * 43)),
+    ("id 4, day 511", 4, b"\0\0\x01\xff" + bytes(4), listed(4, "00 00 00 00 01ff 00000000 0000")),
+    ("id 9, a plan with 511", 9, timed(13, 3, 511, 511), listed(9, timed(13, 3, 511, 511).hex())),
+]
+SAMPLES += EXTENSIONS
 
 
 def case_line(sample):

@@ -1,4 +1,4 @@
-"""Picked bodies and ledgers of edition 2, with answers worked out by hand from document 01 and request S-18.
+"""Picked bodies and ledgers of edition 2, with answers worked out by hand from document 01, S-18 and S-23.
 
 BODIES: (name, table id, body, edition 2 ledger or refusal, kept body). LEDGERS: (name, ledger, answer), the
 answer being the table id and the body, or the refusal. Numbers in the names are plan lengths.
@@ -9,7 +9,8 @@ mode 1 the slots are at 43, in mode 3 the raw bytes' number is at 37 and they ar
 filler has 55 bytes, so a second one starts at 61 and its filler is at 116.
 """
 
-from samples import CLOCK, HEADER, P3, P3_LINE, P8_LINE, ZERO, centred, fragment
+from samples import CLOCK, HEADER, P3, P3_LINE, P8_LINE, TIME, ZERO, associated, cell, cell_listed, centred
+from samples import clocks_listed, fragment, timed, timed_listed
 from samples import listed as any_listed
 from samples import plan as any_plan
 
@@ -54,7 +55,10 @@ BELOW = entry(24, 0, DWELLS)
 PLAN_IN_BYTES = plan(13, 3).hex()
 # A clock with base 0x100000003, r6 63, ext 43, as the body and as the ledger has it.
 SET_CLOCK, SET_CLOCKS = "80000001fe2b", "0000000100000003 3f 002b"
-ASSOCIATION = CLOCK + "0000000000000000 00000000"
+ASSOCIATION = CLOCK + TIME
+# A plan of mode 0 in a ledger up to its clocks, and the clocks that its body has.
+FRONT = "0001 00000000 00 0019 00 00"
+LATE_ON_TIME = 299, 0, 0, 511
 
 BODIES = [
     # Mode 0: exact, with a remark, past the data, too short.
@@ -132,6 +136,20 @@ BODIES = [
     ("P10", 5, b"", "00020205", SAME),
     ("id 5, two bytes", 5, b"\xaa\xbb", "00040205aabb", SAME),
     ("id 255, one byte", 255, b"\x01", "000302ff01", SAME),
+    # S-23: extensions above 299 in clocks, and bytes that look like them.
+    ("299, remark full", 3, timed(27, 0, 299, 299, 299, 299, rest=b"\xff\xff"),
+     plans(1, "00000000 00 001b 00 00" + clocks_listed(299, 299, 299, 299) + "0002 ffff"), SAME),
+    ("application 300, remark", 3, timed(27, 0, 300, 0, 0, 0, rest=b"\0\0"), "R 30 300 299", SAME),
+    ("on time 511, length 24", 3, timed(24, 0, *LATE_ON_TIME), "R 30 511 299", SAME),
+    ("raw plan, cycle 300, past the data", 3, timed(16, 3, 0, 300, rest=b"\xaa\xbb"), "R 30 300 299", SAME),
+    ("remark, then sleep duration 300", 3, plan(27, 0, DWELL + "aabb") + timed(37, 2, 0, 0, 0, 0, 0, 300),
+     "R 30 300 299", SAME),
+    ("a plan with 511 as remark", 3, plan(4095, 0, DWELL + timed(13, 3, 511, 511).hex()),
+     plans(1, entry(4095, 0, DWELLS, timed(13, 3, 511, 511).hex())), SAME),
+    ("id 1, second obsolescent system 300", 1, cell([299], [299, 300]), "R 30 300 299", SAME),
+    ("id 1, 299", 1, cell([299], [299]), listed(1, "0001" + cell_listed([299], [299])), SAME),
+    ("id 2, 300", 2, associated(300), "R 30 300 299", SAME),
+    ("id 2, 300, 18 bytes", 2, associated(300, 0, 18), "R 9 152 144", SAME),
     # The limit.
     ("4,096 bytes with the remark", 3, plan(4090, 0, DWELL + "5a" * 4065),
      plans(1, entry(4090, 0, DWELLS, "5a" * 4065)), SAME),
@@ -272,4 +290,22 @@ LEDGERS = [
     ("id 4, header cut", listed(4, "00 00 00 00 0000"), "R 23 10 0"),
     ("id 5, empty", "00020205", "05"),
     ("id 255", "000402ffaabb", "ffaabb"),
+    # S-23: the reader takes any extension of 9 bits, as before.
+    ("299", listed(3, FRONT + clocks_listed(299, 299, 299, 299) + "0000"), body(3, timed(25, 0, 299, 299, 299, 299))),
+    ("application 300", listed(3, FRONT + clocks_listed(300, 0, 0, 0) + "0000"), body(3, timed(25, 0, 300, 0, 0, 0))),
+    ("on time 511", listed(3, FRONT + clocks_listed(*LATE_ON_TIME) + "0000"), body(3, timed(25, 0, *LATE_ON_TIME))),
+    ("on time 512", listed(3, FRONT + clocks_listed(299, 0, 0, 512) + "0000"), "R 25 57 0"),
+    ("application 300, cycle 512", listed(3, FRONT + clocks_listed(300, 512, 0, 0) + "0000"), "R 25 35 0"),
+    ("application 300, 24", listed(3, "0001 00000000 00 0018 00 00" + clocks_listed(300, 0, 0, 0) + "0000"),
+     "R 28 61 0"),
+    ("all 511, edition 1", listed(3, "0001" + timed_listed(2, *[511] * 6), 1), body(3, timed(37, 2, *[511] * 6))),
+    ("raw plan, cycle 300, edition 1", listed(3, "0001" + timed_listed(3, 0, 300, rest=TWO), 1),
+     body(3, timed(15, 3, 0, 300, rest=b"\xaa\xbb"))),
+    ("id 1, 300 and 511", listed(1, "0001" + cell_listed([0, 300], [511])), body(1, cell([0, 300], [511]))),
+    ("id 1, 300 and 511, edition 1", listed(1, "0001" + cell_listed([0, 300], [511]), 1),
+     body(1, cell([0, 300], [511]))),
+    ("id 1, obsolescent system 512", listed(1, "0001" + cell_listed([], [512])), "R 25 34 0"),
+    ("id 2, 300", listed(2, "00 00" + clocks_listed(300) + TIME), body(2, associated(300))),
+    ("id 2, 511, edition 1", listed(2, "00 00" + clocks_listed(511) + TIME, 1), body(2, associated(511))),
+    ("id 2, 512", listed(2, "00 00" + clocks_listed(512) + TIME), "R 25 15 0"),
 ]

@@ -1,9 +1,11 @@
-"""Wrong readings of S-18, each the right one with one rule changed.
+"""Wrong readings of S-18 and S-23, each the right one with one rule changed.
 
-A list of ledgers on which a slip gives the right answers would not show that mistake (editions.py --check).
+SLIPS read ledgers, BODY_SLIPS read bodies. A list of ledgers or bodies on which a slip gives the right answers
+would not show that mistake (editions.py --check).
 """
 
 from ledgers import BELOW, MIXED, NOT_RAW, RAW_SHORT, Fault, Reader, misfit
+from read import LARGEST, Body, Refused
 
 
 class FillerNotCounted(Reader):
@@ -116,6 +118,17 @@ class Unheld(Reader):
         return 0
 
 
+class RefusesByThirty(Reader):
+    """The ledger reader tests extensions as the reading of bodies does."""
+
+    def clocks(self, count):
+        for _ in range(count):
+            self.fields(33, 6)
+            extension = self.field(9)
+            if extension > LARGEST:
+                raise Fault(30, extension, LARGEST)
+
+
 SLIPS = {
     "filler not counted for 26": FillerNotCounted,
     "named length counted for 26": NamedLengthCounted,
@@ -131,4 +144,85 @@ SLIPS = {
     "length below the fields accepted": TooShortLengthAllowed,
     "28 before the filler is there": BeforeTheFiller,
     "28 after all plans": AfterAllPlans,
+    "30 from the ledger reader": RefusesByThirty,
+}
+
+
+def up_to(largest):
+    """Another largest extension."""
+    class OtherLargest(Body):
+        def extension(self, kind, value):
+            if value > largest:
+                raise Refused(30, value, LARGEST)
+    return OtherLargest
+
+
+def untested(*kinds):
+    """Clocks of these kinds left out."""
+    class Untested(Body):
+        def extension(self, kind, value):
+            if kind not in kinds:
+                super().extension(kind, value)
+    return Untested
+
+
+class BeforeTheSize(Body):
+    """The clocks of a group, where they are there, before the group's size."""
+
+    groups = {7: (32, 80), 8: (32, 80), 9: (8, 152), 10: (0, 48), 13: (0, 48)}
+
+    def wants(self, number, bits):
+        start, every = self.groups.get(number, (0, 0))
+        place = self.place
+        for at in range(place + start, place + bits, every) if every else ():
+            if at + 48 <= self.end:
+                self.extension("", self.whole >> self.end - at - 48 & 511)
+        super().wants(number, bits)
+
+
+class WithTheNextField(Body):
+    """30 only when the next field is there as well."""
+
+    kept = None
+
+    def extension(self, kind, value):
+        if value > LARGEST and self.kept is None:
+            self.kept = value
+
+    def take(self, width):
+        kept, value = self.kept, super().take(width)
+        if kept is not None:
+            super().extension("", kept)
+        return value
+
+
+class ReservedToo(Body):
+    """The reserved bits counted as part of the extension."""
+
+    def extension(self, kind, value):
+        super().extension(kind, self.whole >> self.end - self.place & 0x7FFF)
+
+
+class Swapped(Body):
+    """Need and have exchanged."""
+
+    def extension(self, kind, value):
+        if value > LARGEST:
+            raise Refused(30, LARGEST, value)
+
+
+KINDS = ["ncr", "dwell", "on time", "grid", "revisit", "sleep time", "sleep duration"]
+KINDS += [f"{name} system, {which}" for name in ("new", "obsolescent") for which in ("first", "later")]
+KINDS += [f"{name}, mode {mode}" for name in ("application", "cycle") for mode in range(4)]
+
+BODY_SLIPS = {
+    "300 accepted": up_to(300),
+    "299 refused": up_to(298),
+    "30 before the group's size": BeforeTheSize,
+    "30 with the next field": WithTheNextField,
+    "reserved bits in the extension": ReservedToo,
+    "need and have exchanged": Swapped,
+    "only the first new system tested": untested("new system, later"),
+    "obsolescent systems untested": untested("obsolescent system, first", "obsolescent system, later"),
+    **{f"untested: {kind}": untested(kind) for kind in KINDS},
 }

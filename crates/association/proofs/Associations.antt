@@ -1,4 +1,4 @@
--- An association whose fields are all there, and a type's number.
+-- An association whose bits are all there, by the case of its clock; the tests in front of it; and a type's number.
 -- Assumes nothing.
 use Prim.Native.Nat.{ℕ, _*_, _%_, _≤_, _<_}
 use mathlib.Core.Path.{_≡_, refl, sym, ap, _∙_}
@@ -14,13 +14,17 @@ use Rattle.format.specs.Syntax.{Syntax, end, unsigned, Field, num, when, need}
 use Rattle.format.specs.Tables.{association, time, leap, bits, u}
 use Rattle.format.specs.ByName.{firstBy}
 use Rattle.format.specs.At.{read}
+use Rattle.format.specs.declared.Refusal.{Refusal}
 use Rattle.format.proofs.ReadLaws as laws
-use Rattle.format.proofs.GroupLaws.{Line, plainly, stand, group-from, one-from}
-use Rattle.bits.specs.Read.{Room}
+use Rattle.format.proofs.GroupLaws.{Line, plainly, fields, stand, group-from, one-from}
+use Rattle.bits.specs.Read.{Place, Room}
 use Rattle.bits.proofs.Reading.{enough, short}
 use Rattle.bits.proofs.Tests.{equal}
-use Rattle.clocks.specs.Clocks.{clockOf}
+use Rattle.clocks.specs.Clocks.{clockAt, refusalOf as clockRefusal}
 use Rattle.clocks.specs.declared.Clock.{Clock}
+use Rattle.clocks.specs.declared.ClockAnswer.{ClockAnswer}
+use Rattle.clocks.specs.declared.ClockAnswer.the-variants as ca
+use Rattle.clocks.proofs.Clocks.{put, told, got-clock, cut-clock}
 use Rattle.association.specs.Association.{associationType, typeNumber, associationOf, associationAt, leapAt, reservedAt}
 use Rattle.association.specs.declared.MaybeLeapInfo.{MaybeLeapInfo}
 use Rattle.association.specs.declared.MaybeLeapInfo.the-variants.{Some}
@@ -47,18 +51,18 @@ module _ (b : List ℕ) where
   abbrev kind : ℕ
   kind = valueAt b 0 4
 
-  -- the association by places
-  abbrev placed : TimeAssociationBody
-  placed =
+  -- the association by places; k: its clock
+  abbrev placed : Clock → TimeAssociationBody
+  placed k =
       record {
         «association_type» = associationType kind;
         «leap_info» = leapAt b kind;
-        «ncr_base» = valueAt b 8 33;
-        «ncr_ext» = valueAt b 47 9;
+        «ncr_base» = k .base;
+        «ncr_ext» = k .ext;
         «association_timestamp_seconds» = valueAt b 56 64;
         «association_timestamp_nanoseconds» = valueAt b 120 32;
         «reserved_zero_future_use_4» = reservedAt b kind;
-        «ncr_reserved_zero_future_use» = valueAt b 41 6;
+        «ncr_reserved_zero_future_use» = k .reserved;
       }
 
   -- the lines behind the tests, and what is made of the fields
@@ -88,18 +92,31 @@ module _ (b : List ℕ) where
   leaps-of h p q r s =
       equal _ _ h (λ i. Some (record { leap59 = eqb (p i) 1; leap61 = eqb (q i) 1; pastleap59 = eqb (r i) 1; pastleap61 = eqb (s i) 1 }))
 
-  -- the lines behind the leap flags or the reserved bits
-  abbrev behind4 : List Line
-  behind4 =
-      plainly "ncr_base" 33 ∷ plainly "ncr_reserved_zero_future_use" 6 ∷ plainly "ncr_ext" 9
-      ∷ plainly "association_timestamp_seconds" 64 ∷ plainly "association_timestamp_nanoseconds" 32 ∷ []
+  -- the lines in front of the clock, and behind it
+  abbrev leaps : List Line
+  leaps = plainly "leap59" 1 ∷ plainly "leap61" 1 ∷ plainly "pastleap59" 1 ∷ plainly "pastleap61" 1 ∷ []
 
-  pub all-there : 152 ≤ 8 * length b → Entry placed 152 ≡ associationAt b
-  unfolding associationAt association associationOf firstBy
-  all-there h = sym (head ∙ go (eqb kind 1) refl)
+  abbrev others : List Line
+  others = plainly "reserved_zero_future_use_4" 4 ∷ []
+
+  abbrev stamps : List Line
+  stamps = plainly "association_timestamp_seconds" 64 ∷ plainly "association_timestamp_nanoseconds" 32 ∷ []
+
+  -- the fields in front of the clock; t: whether the type has leap flags
+  abbrev front : Bool → List Field
+  front t = num unsigned "association_type" 4 kind ∷ cond t (stand b 0 4 leaps) (stand b 0 4 others)
+
+  -- what is made of the fields from the clock on
+  abbrev from-clock : List Field → ℕ → TimeAssociationAnswer
+  from-clock ts q = ok (front (eqb kind 1) ++ ts) q
+
+  -- the reading goes as far as the clock
+  to-clock : 152 ≤ 8 * length b → associationAt b ≡ read b 0 time 8 from-clock Refused
+  unfolding associationAt association
+  to-clock h = head ∙ go (eqb kind 1) refl
     where
       f : List Field → ℕ → TimeAssociationAnswer
-      f ts q = Entry (associationOf (num unsigned "association_type" 4 kind ∷ ts)) q
+      f ts q = ok (num unsigned "association_type" 4 kind ∷ ts) q
 
       head : associationAt b ≡ read b 0 (branch kind) 4 f Refused
       head =
@@ -107,27 +124,42 @@ module _ (b : List ℕ) where
           ∙ laws.need-at b 0 0 ok Refused 9 152 tail (omega arith)
           ∙ one-from b 0 0 0 unsigned "association_type" 4 branch ok Refused (omega arith)
 
-      leaps : List Line
-      leaps = plainly "leap59" 1 ∷ plainly "leap61" 1 ∷ plainly "pastleap59" 1 ∷ plainly "pastleap61" 1 ∷ behind4
-
-      others : List Line
-      others = plainly "reserved_zero_future_use_4" 4 ∷ behind4
-
-      go : (t : Bool) → eqb kind 1 ≡ t → read b 0 (branch kind) 4 f Refused ≡ Entry placed 152
+      go : (t : Bool) → eqb kind 1 ≡ t → read b 0 (branch kind) 4 f Refused ≡ read b 0 time 8 (λ ts. ok (front t ++ ts)) Refused
       go true e =
           laws.when-yes b 0 4 f Refused (eqb kind 1) (leap time) (u "reserved_zero_future_use_4" 4 time) e
-          ∙ group-from b 0 0 4 leaps end f Refused h
-          ∙ laws.end-at b 0 152 (λ ts. f (stand b 0 4 leaps ++ ts)) Refused h
-          ∙ rw e
+          ∙ group-from b 0 0 4 leaps time f Refused (omega arith)
       go false e =
           laws.when-no b 0 4 f Refused (eqb kind 1) (leap time) (u "reserved_zero_future_use_4" 4 time) e
-          ∙ group-from b 0 0 4 others end f Refused h
-          ∙ laws.end-at b 0 152 (λ ts. f (stand b 0 4 others ++ ts)) Refused h
-          ∙ rw e
+          ∙ group-from b 0 0 4 others time f Refused (omega arith)
+
+  -- the clock's place
+  at-clock : Room b 0 152 → Place b 8
+  at-clock l = record { short = l .short; within = omega arith }
+
+  -- a clock that is refused, and one that is read
+  pub clock-refused : {c : ClockAnswer} {g h : Refusal} → Room b 0 152 → c ≡ clockAt b 8 → c ≡ ca.Refused g → h ≡ clockRefusal c → Refused h ≡ associationAt b
+  clock-refused l e m w = cut-clock b 0 8 from-clock Refused "ncr" _ e m w (at-clock l) refl ∙ sym (to-clock (l .fits))
+
+  clock-there : {c : ClockAnswer} {k : Clock} {n : ℕ} → Room b 0 152 → c ≡ clockAt b 8 → c ≡ ca.Read k n → Entry (placed k) 152 ≡ associationAt b
+  unfolding associationOf firstBy
+  clock-there {c} {k} {n} l e m = got-clock b 0 8 from-clock Refused "ncr" _ e m (at-clock l) (rw (told b 8 (at-clock l) e m .next) behind) ∙ sym (to-clock (l .fits))
+    where
+      f : List Field → ℕ → TimeAssociationAnswer
+      f ts q = from-clock (put "ncr" k ts) q
+
+      go : (t : Bool) → eqb kind 1 ≡ t → Entry (placed k) 152 ≡ ok (front (eqb kind 1) ++ put "ncr" k (stand b 0 56 stamps)) 152
+      go true h = rw h
+      go false h = rw h
+
+      behind : Entry (placed k) 152 ≡ read b 0 (fields stamps end) 56 f Refused
+      behind =
+          go (eqb kind 1) refl
+          ∙ sym (group-from b 0 0 56 stamps end f Refused (l .fits) ∙ laws.end-at b 0 152 (λ ts. f (stand b 0 56 stamps ++ ts)) Refused (l .fits))
 
   -- the same of the parts that the code reads
-  pub all-read : {k sec ns r4 : ℕ} {t : AssociationType} {l : MaybeLeapInfo} {ncr : Clock} → k ≡ kind → ncr ≡ clockOf b 8 → t ≡ associationType k → l ≡ leapAt b k
-      → sec ≡ valueAt b 56 64 → ns ≡ valueAt b 120 32 → r4 ≡ reservedAt b k → Room b 0 152
+  pub all-read : {j sec ns r4 n : ℕ} {t : AssociationType} {l : MaybeLeapInfo} {c : ClockAnswer} {ncr : Clock}
+      → Room b 0 152 → c ≡ clockAt b 8 → c ≡ ca.Read ncr n
+      → j ≡ kind → t ≡ associationType j → l ≡ leapAt b j → sec ≡ valueAt b 56 64 → ns ≡ valueAt b 120 32 → r4 ≡ reservedAt b j
       → Entry (record {
         «association_type» = t;
         «leap_info» = l;
@@ -138,4 +170,4 @@ module _ (b : List ℕ) where
         «reserved_zero_future_use_4» = r4;
         «ncr_reserved_zero_future_use» = ncr .reserved;
       }) 152 ≡ associationAt b
-  all-read p1 p2 p3 p4 p5 p6 p7 h = rw (p3, p4, p7, p5, p6, p2, p1) (all-there (h .fits))
+  all-read h e m p1 p2 p3 p4 p5 p6 = rw (p2, p3, p6, p4, p5, p1) (clock-there h e m)

@@ -4,9 +4,10 @@ ghost use Prim.Native.Nat.{_≤_};
 ghost use lib.ListN.{length};
 ghost use Rattle.bits.specs.Read.{Room};
 ghost use Rattle.association.specs.Association.{associationType, typeNumber, leapAt, reservedAt, associationAt, refusalOf};
-ghost use Rattle.association.specs.declared.TimeAssociationAnswer.the-variants.{Entry};
 use bits::value_at;
-use clocks::clock_at;
+use clocks::ClockAnswer;
+use clocks::clock_refusal;
+use clocks::clock_within;
 use format::Refusal;
 
 pub enum AssociationType {
@@ -120,14 +121,17 @@ fn reserved_of(s: &[u8], kind: u64) -> u8
     value_at(s, 4, 4) as u8
 }
 
-// The association of a body in which all of it is there.
-fn association_of(s: &[u8]) -> TimeAssociationBody
+// The association of a body in which all of its bits are there: refused by its clock's extension alone.
+fn association_of(s: &[u8]) -> TimeAssociationAnswer
     requires { ⌜ Room (now s) 0 152 ⌝ }
-    ensures { λ r. ⌜ Entry r 152 ≡ associationAt (now (s .entry)) ⌝ }
+    ensures { λ r. ⌜ r ≡ associationAt (now (s .entry)) ⌝ }
 {
+    let r = clock_within(s, 8);
+    let ClockAnswer::Read { clock: ncr, .. } = r else {
+        return TimeAssociationAnswer::Refused(clock_refusal(r));
+    };
     let kind = value_at(s, 0, 4);
-    let ncr = clock_at(s, 8);
-    TimeAssociationBody {
+    let association = TimeAssociationBody {
         association_type: AssociationType::from_u8(kind as u8),
         leap_info: leap_info_of(s, kind),
         ncr_base: ncr.base,
@@ -136,10 +140,15 @@ fn association_of(s: &[u8]) -> TimeAssociationBody
         association_timestamp_nanoseconds: value_at(s, 120, 32) as u32,
         reserved_zero_future_use_4: reserved_of(s, kind),
         ncr_reserved_zero_future_use: ncr.reserved,
+    };
+    TimeAssociationAnswer::Entry {
+        association,
+        next: 152,
     }
 }
 
-// The association of a body: refused with number 2 where it is empty, and with 9 where it is shorter than 152 bits.
+// The association of a body: refused with number 2 where it is empty, with 9 where it is shorter than 152 bits, and by
+// its clock's extension.
 pub fn read_association(s: &[u8]) -> TimeAssociationAnswer
     requires { ⌜ length (now s) ≤ 65536 ⌝ }
     ensures { λ r. ⌜ r ≡ associationAt (now (s .entry)) ⌝ }
@@ -159,8 +168,5 @@ pub fn read_association(s: &[u8]) -> TimeAssociationAnswer
             have,
         });
     }
-    TimeAssociationAnswer::Entry {
-        association: association_of(s),
-        next: 152,
-    }
+    association_of(s)
 }

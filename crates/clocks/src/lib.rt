@@ -2,6 +2,7 @@
 ghost use mathlib.Core.Path.{_≡_};
 ghost use Rattle.bits.specs.Read.{Place, Room};
 ghost use Rattle.clocks.specs.Clocks.{clockAt, clockOf, stampOf, refusalOf};
+ghost use Rattle.clocks.specs.Inner.{fieldsAt, tested};
 use bit_reader::BitReader;
 use bits::Bits;
 use bits::refusal_of;
@@ -41,10 +42,10 @@ pub fn clock_refusal(r: ClockAnswer) -> Refusal
     }
 }
 
-// Reads a clock by a reader of its own; refused with number 1 at the first of its fields that goes on behind the end.
-pub fn read_clock(s: &[u8], at: usize) -> ClockAnswer
+// Reads a clock's fields by a reader of its own; refused with number 1 at the first that goes on behind the end.
+fn take_clock(s: &[u8], at: usize) -> ClockAnswer
     requires { ⌜ Place (now s) at ⌝ }
-    ensures { λ r. ⌜ r ≡ clockAt (now (s .entry)) at ⌝ }
+    ensures { λ r. ⌜ r ≡ fieldsAt (now (s .entry)) at ⌝ }
 {
     let mut reader = BitReader::new(s);
     reader.skip(at);
@@ -71,8 +72,34 @@ pub fn read_clock(s: &[u8], at: usize) -> ClockAnswer
     }
 }
 
-// The clock at a place where all of it is there.
-pub fn clock_at(s: &[u8], at: usize) -> Clock
+// A clock whose fields were read: an extension above 299 is damage, and is refused with number 30.
+fn checked(clock: Clock, next: usize) -> ClockAnswer
+    ensures { λ r. ⌜ r ≡ tested clock next ⌝ }
+{
+    if clock.ext > 299 {
+        return ClockAnswer::Refused(Refusal {
+            number: 30,
+            need: clock.ext as usize,
+            have: 299,
+        });
+    }
+    ClockAnswer::Read { clock, next }
+}
+
+// Reads a clock: refused where it is cut short, or by its extension.
+pub fn read_clock(s: &[u8], at: usize) -> ClockAnswer
+    requires { ⌜ Place (now s) at ⌝ }
+    ensures { λ r. ⌜ r ≡ clockAt (now (s .entry)) at ⌝ }
+{
+    let r = take_clock(s, at);
+    let ClockAnswer::Read { clock, next } = r else {
+        return ClockAnswer::Refused(clock_refusal(r));
+    };
+    checked(clock, next)
+}
+
+// The fields of a clock at a place where all of it is there.
+fn clock_at(s: &[u8], at: usize) -> Clock
     requires { ⌜ Room (now s) at 48 ⌝ }
     ensures { λ r. ⌜ r ≡ clockOf (now (s .entry)) at ⌝ }
 {
@@ -81,6 +108,15 @@ pub fn clock_at(s: &[u8], at: usize) -> Clock
         reserved: value_at(s, at + 33, 6) as u8,
         ext: value_at(s, at + 39, 9) as u16,
     }
+}
+
+// Reads a clock of a group whose bits were found to be there; refused by its extension alone.
+pub fn clock_within(s: &[u8], at: usize) -> ClockAnswer
+    requires { ⌜ Room (now s) at 48 ⌝ }
+    ensures { λ r. ⌜ r ≡ clockAt (now (s .entry)) at ⌝ }
+{
+    let clock = clock_at(s, at);
+    checked(clock, at + 48)
 }
 
 // The stamp at a place where all of it is there.

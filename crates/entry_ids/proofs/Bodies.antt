@@ -12,7 +12,7 @@ use Rattle.format.specs.Refusals.{refuse}
 use Rattle.format.specs.Syntax.{Field, Parse, got, refused, andThen}
 use Rattle.format.specs.Tables.{association}
 use Rattle.format.specs.Body.{readBody}
-use Rattle.format.specs.Whole.{Layout, sole, many, opaque, layout, Table, one, list, asIs, entriesOf, entries, readAs, bodyRead, bodyStarts}
+use Rattle.format.specs.Whole.{Layout, sole, many, opaque, layout, Table, one, list, asIs, entriesOf, entries, readAs, bodyReadAs, bodyRead, bodyStarts}
 use Rattle.format.specs.Calls.{answer, Fitted, left, Enough}
 use Rattle.format.specs.At.{endOf, seek}
 use Rattle.format.specs.Added.{entryIds, firstOfEach}
@@ -62,7 +62,7 @@ module _ (id : ℕ) (b : List ℕ) where
   -- ---- a body that is no list
 
   no-entries : {t : Table} {r : List ℕ} → (id ≤ 4 → id ≡ 2) → bodyRead id b ≡ got t r → entriesOf t ≡ []
-  unfolding bodyRead readAs entriesOf
+  unfolding bodyReadAs readAs entriesOf
   no-entries {t} {r} h e = go id h (cond-got (leb (length b) 4096) _ _ _ _ e .1)
     where
       go : (k : ℕ) → (k ≤ 4 → k ≡ 2) → readAs (layout k) b ≡ got t r → entriesOf t ≡ []
@@ -111,7 +111,7 @@ listed-from id b q l h = ap (λ (y : Layout). readAs y b) (layout-list id l) ∙
 pub gathered-list : {r : Answer} {kept : List ℕ} (id : ℕ) (b : List ℕ) (q : ℕ) → length b ≤ 4096 → IsList (layout id) → endOf b (headSyntax id) 0 ≡ At q
     → Gathered id (gather id [] (entries (8 * length b) (leastBits id) (entrySyntax id) (8 * length b - q) (drop q (bitsOf b)))) r kept
     → Gathered id (idsOf id b) r kept
-unfolding idsOf bodyRead
+unfolding idsOf bodyReadAs
 gathered-list id b q h l e g =
     let o = headed b id q l e in
     rw (le-leb (length b) 4096 h, listed-from id b q l o, gather-listed id b (o .hs)) g

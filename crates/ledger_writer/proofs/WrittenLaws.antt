@@ -14,7 +14,7 @@ use Rattle.format.specs.Refusals.{refuse}
 use Rattle.format.specs.Syntax.{Syntax, end, Field, Edition, Parse, got, refused, andThen}
 use Rattle.format.specs.Tables.{association, header}
 use Rattle.format.specs.Ledger.{ledger}
-use Rattle.format.specs.Whole.{many, opaque, layout, Table, one, list, asIs, readAs, bodyRead, contentOf, version, editionFor, ledgerOf}
+use Rattle.format.specs.Whole.{many, opaque, layout, Table, one, list, asIs, readAs, bodyReadAs, bodyRead, contentOf, version, editionFor, ledgerOf}
 use Rattle.format.specs.Calls.{answer, left, filed, writeAnswer, writeLeft}
 use Rattle.format.specs.declared.Answer as answers
 use Rattle.format.specs.declared.Answer.the-variants as says
@@ -114,15 +114,15 @@ header-ends {body = body} {a = a} w =
 
 module _ (ed : Edition) (id : ℕ) (body : List ℕ) where
   filed-over : 4096 < length body → filed ed id body ≡ refused 21 (length body) 4096
-  unfolding filed bodyRead
+  unfolding filed bodyReadAs
   filed-over h = rw (lt-leb (length body) 4096 h)
 
   filed-got : (t : Table) → length body ≤ 4096 → readAs (layout id) body ≡ got t [] → filed ed id body ≡ got (ledgerOf ed id t) []
-  unfolding filed bodyRead
+  unfolding filed bodyReadAs
   filed-got t h e = rw (le-leb (length body) 4096 h, e)
 
   filed-refused : (x y z : ℕ) → length body ≤ 4096 → readAs (layout id) body ≡ refused x y z → filed ed id body ≡ refused x y z
-  unfolding filed bodyRead
+  unfolding filed bodyReadAs
   filed-refused x y z h e = rw (le-leb (length body) 4096 h, e)
 
 length-ledgerOf : (ed : Edition) (id : ℕ) (t : Table) → length (ledgerOf ed id t) ≡ length (contentOf ed t) + 4
@@ -173,7 +173,7 @@ pub record Known (ed : Edition) (id : ℕ) (body : List ℕ) (need : ℕ) : Type
   pub content : need ≡ length (contentOf ed t) + 4
 
 pub known : {ed : Edition} {id : ℕ} {body : List ℕ} {need : ℕ} {s : sizes.LedgerSize} → s ≡ sized.Size need → s ≡ sizeAnswer ed id body → Known ed id body need
-unfolding sizeAnswer filed bodyRead sizeIn
+unfolding sizeAnswer filed bodyReadAs sizeIn
 known {ed} {id} {body} {need} q e = go (bodyRead id body) refl (sym q ∙ e)
   where
     go : (p : Parse Table) → bodyRead id body ≡ p → sized.Size need ≡ sizeIn (andThen p (λ t rest. got (ledgerOf ed id t) [])) → Known ed id body need

@@ -1,3 +1,4 @@
 pub mod Bitmap
 pub mod Choice
 pub mod Numbers
+pub mod Grid

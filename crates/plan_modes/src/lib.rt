@@ -4,7 +4,9 @@ ghost use Prim.Native.Nat.{ℕ, _%_};
 ghost use Rattle.bits.specs.Read.{Place, Room};
 ghost use Rattle.plan_modes.specs.Modes.{planMode, planModeNumber, modeRefusal, dwellAt, bitmapAt, gridAt, rawAt, modeAt};
 use bits::value_at;
-use clocks::clock_at;
+use clocks::ClockAnswer;
+use clocks::clock_refusal;
+use clocks::clock_within;
 use format::Refusal;
 use parts::Part;
 use parts::slots_on;
@@ -114,9 +116,14 @@ fn read_dwell(s: &[u8], at: usize) -> ModeAnswer
             have,
         });
     }
-    let dwell = clock_at(s, at);
-    let middle = at + 48;
-    let on = clock_at(s, middle);
+    let k = clock_within(s, at);
+    let ClockAnswer::Read { clock: dwell, next } = k else {
+        return ModeAnswer::Refused(clock_refusal(k));
+    };
+    let k = clock_within(s, next);
+    let ClockAnswer::Read { clock: on, next } = k else {
+        return ModeAnswer::Refused(clock_refusal(k));
+    };
     ModeAnswer::Mode {
         mode: BeamhoppingMode::Mode0 {
             dwell_duration_base: dwell.base,
@@ -126,7 +133,7 @@ fn read_dwell(s: &[u8], at: usize) -> ModeAnswer
             dwell_duration_reserved_zero_future_use: dwell.reserved,
             on_time_reserved_zero_future_use: on.reserved,
         },
-        next: middle + 48,
+        next,
     }
 }
 
@@ -186,6 +193,46 @@ fn read_bitmap(s: &[u8], at: usize) -> ModeAnswer
     bitmap_at(s, at)
 }
 
+// Mode 2 where its bits are there.
+fn grid_at(s: &[u8], at: usize) -> ModeAnswer
+    requires { ⌜ Room (now s) at 192 ⌝ }
+    ensures { λ r. ⌜ ((e : ℕ) → r ≡ gridAt (now (s .entry)) e at) ⌝ }
+{
+    let k = clock_within(s, at);
+    let ClockAnswer::Read { clock: grid, next } = k else {
+        return ModeAnswer::Refused(clock_refusal(k));
+    };
+    let k = clock_within(s, next);
+    let ClockAnswer::Read { clock: visit, next } = k else {
+        return ModeAnswer::Refused(clock_refusal(k));
+    };
+    let k = clock_within(s, next);
+    let ClockAnswer::Read { clock: sleep, next } = k else {
+        return ModeAnswer::Refused(clock_refusal(k));
+    };
+    let k = clock_within(s, next);
+    let ClockAnswer::Read { clock: span, next } = k else {
+        return ModeAnswer::Refused(clock_refusal(k));
+    };
+    ModeAnswer::Mode {
+        mode: BeamhoppingMode::Mode2 {
+            grid_size_base: grid.base,
+            grid_size_ext: grid.ext,
+            revisit_duration_base: visit.base,
+            revisit_duration_ext: visit.ext,
+            sleep_time_base: sleep.base,
+            sleep_time_ext: sleep.ext,
+            sleep_duration_base: span.base,
+            sleep_duration_ext: span.ext,
+            grid_size_reserved_zero_future_use: grid.reserved,
+            revisit_duration_reserved_zero_future_use: visit.reserved,
+            sleep_time_reserved_zero_future_use: sleep.reserved,
+            sleep_duration_reserved_zero_future_use: span.reserved,
+        },
+        next,
+    }
+}
+
 // Mode 2.
 fn read_grid(s: &[u8], at: usize) -> ModeAnswer
     requires { ⌜ Place (now s) at ⌝ }
@@ -199,30 +246,7 @@ fn read_grid(s: &[u8], at: usize) -> ModeAnswer
             have,
         });
     }
-    let grid = clock_at(s, at);
-    let at1 = at + 48;
-    let revisit = clock_at(s, at1);
-    let at2 = at1 + 48;
-    let sleep = clock_at(s, at2);
-    let at3 = at2 + 48;
-    let duration = clock_at(s, at3);
-    ModeAnswer::Mode {
-        mode: BeamhoppingMode::Mode2 {
-            grid_size_base: grid.base,
-            grid_size_ext: grid.ext,
-            revisit_duration_base: revisit.base,
-            revisit_duration_ext: revisit.ext,
-            sleep_time_base: sleep.base,
-            sleep_time_ext: sleep.ext,
-            sleep_duration_base: duration.base,
-            sleep_duration_ext: duration.ext,
-            grid_size_reserved_zero_future_use: grid.reserved,
-            revisit_duration_reserved_zero_future_use: revisit.reserved,
-            sleep_time_reserved_zero_future_use: sleep.reserved,
-            sleep_duration_reserved_zero_future_use: duration.reserved,
-        },
-        next: at3 + 48,
-    }
+    grid_at(s, at)
 }
 
 // Mode 3: the bytes up to the plan's end, or none where that is past the data.

@@ -6,7 +6,7 @@ use Rattle.format.specs.Digits.{digits, value, bitsOf}
 use Rattle.format.specs.Tables.{position}
 use Rattle.format.specs.Body.{readBody}
 use Rattle.format.specs.Ledger.{ledger}
-use Rattle.format.specs.Whole.{walk, readAs, bodyRead, ledgers, contentOf, ledgerOf}
+use Rattle.format.specs.Whole.{walk, readAs, bodyReadAs, bodyRead, ledgers, contentOf, ledgerOf}
 use Rattle.format.specs.Calls.{filed}
 use Rattle.ledger_text.specs.Text.{ascii, hexDigit, hexText, hexLine, digitsBefore, decimal, spaced, refusalLine}
 use Rattle.sat_ledger.specs.Output.{shown, outputOf}
@@ -16,5 +16,5 @@ pub outputs-hold :
     (outputOf [] ≡ ascii "no input\n") ×
     (outputOf (0 ∷ []) ≡ ascii "000401000000\n") ×
     (outputOf (0 ∷ 0 ∷ 0 ∷ 7 ∷ 1 ∷ 1 ∷ 0x20 ∷ []) ≡ ascii "R 4 344 16\n")
-unfolding outputOf shown filed bodyRead readAs walk readBody bitsOf digits value position ledgerOf contentOf ledger ledgers hexLine hexText hexDigit refusalLine spaced decimal digitsBefore
+unfolding outputOf shown filed bodyReadAs readAs walk readBody bitsOf digits value position ledgerOf contentOf ledger ledgers hexLine hexText hexDigit refusalLine spaced decimal digitsBefore
 outputs-hold = (refl, refl, refl)

@@ -118,7 +118,7 @@ fn tally<W: Write>(out: &mut W) -> io::Result<()> {
 fn generate<W: Write>(out: &mut W, seed: &str, count: &str, longest: &str) -> io::Result<()> {
     let (seed, longest) = (number(seed), number(longest) as usize);
     for i in 0..number(count) {
-        let case = gen::case(seed, i, longest);
+        let case = gen::case(seed, i, longest, gen::Clocks::Any);
         writeln!(out, "{}", hex::text(&case))?;
     }
     Ok(())
@@ -127,7 +127,7 @@ fn generate<W: Write>(out: &mut W, seed: &str, count: &str, longest: &str) -> io
 fn generate_long<W: Write>(out: &mut W, seed: &str, count: &str) -> io::Result<()> {
     let seed = number(seed);
     for i in 0..number(count) {
-        writeln!(out, "{}", hex::text(&gen::long_case(seed, i)))?;
+        writeln!(out, "{}", hex::text(&gen::long_case(seed, i, gen::Clocks::Any)))?;
     }
     Ok(())
 }

@@ -1,16 +1,28 @@
--- An association, from the parts that were read.
+-- `association_of` meets its contract: the clock, and then the parts around it.
 -- Assumes nothing.
-use Rattle.bits.proofs.Answers.{value-fits}
-use Rattle.association.proofs.Associations.{all-read}
 use borrow.Author.Needs.{needs}
+use Rattle.bits.proofs.Answers.{value-fits}
+use Rattle.association.proofs.Associations.{clock-refused, all-read}
 use Rattle.association.proofs.association_of.Statement.{statement}
 use Rattle.association.proofs.association_of.Tie as tie
 
+clock-within-requires : tie.Need-clock-within-requires
+clock-within-requires c κs = search needs
+
+enum-known-r : tie.Need-enum-known-r
+enum-known-r c = search needs
+
+enum-told : tie.Need-enum-told
+enum-told c = search needs
+
+clock-refusal-requires : tie.Need-clock-refusal-requires
+clock-refusal-requires c κs = search needs
+
+returns : tie.Need-returns
+returns c = search clock-refused
+
 value-at-requires : tie.Need-value-at-requires
 value-at-requires c κs = search needs
-
-clock-at-requires : tie.Need-clock-at-requires
-clock-at-requires c κs = search needs
 
 cast-from-u8 : tie.Need-cast-from-u8
 cast-from-u8 c = search value-fits
@@ -27,26 +39,30 @@ value-at-requires-2 c κs = search needs
 value-at-requires-3 : tie.Need-value-at-requires-3
 value-at-requires-3 c κs = search needs
 
-cast-t9 : tie.Need-cast-t9
-cast-t9 c = search value-fits
+cast-t12 : tie.Need-cast-t12
+cast-t12 c = search value-fits
 
 reserved-of-requires : tie.Need-reserved-of-requires
 reserved-of-requires c κs = search needs
 
-returns : tie.Need-returns
-returns c = search all-read
+returns-2 : tie.Need-returns-2
+returns-2 c = search all-read
 
 pub association-of-spec : {M : Type 1} → statement M
 association-of-spec =
     tie.close
     (tie.spec
+    clock-within-requires
+    enum-known-r
+    enum-told
+    clock-refusal-requires
+    returns
     value-at-requires
-    clock-at-requires
     cast-from-u8
     from-u8-requires
     leap-info-of-requires
     value-at-requires-2
     value-at-requires-3
-    cast-t9
+    cast-t12
     reserved-of-requires
-    returns)
+    returns-2)

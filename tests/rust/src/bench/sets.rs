@@ -1,7 +1,9 @@
-//! The bodies: those of each table with 4,096 bytes, and a mix of short ones. All are accepted.
+//! The bodies: those of each table with 4,096 bytes, and a mix of short ones. All are accepted, and
+//! no clock has an extension above 299, which the Rust would accept too.
 
-use crate::gen;
-use crate::tables::sat::{helper, SatBody};
+use crate::gen::{self, Clocks};
+use crate::tables::sat::helper::{self, Value};
+use crate::tables::sat::SatBody;
 
 const SEED: u64 = 77;
 const LENGTH: usize = 4096;
@@ -62,9 +64,20 @@ pub fn set(name: &str) -> Set {
     Set { name: name.to_string(), what, cases }
 }
 
-/// None if the Rust refuses the body.
+/// The largest extension that S-23 lets pass.
+const LARGEST: u64 = 299;
+
+/// Whether a clock has an extension above 299. The generator draws none, but damaged bodies may.
+fn beyond(sat: &SatBody, body: &[u8]) -> bool {
+    helper::fields(sat, body).fields.iter().any(|field| match field.value {
+        Value::Bits { value, .. } => field.name.ends_with("_ext") && value > LARGEST,
+        _ => false,
+    })
+}
+
+/// None if the Rust refuses the body, or S-23 does.
 fn case(id: u8, body: &[u8]) -> Option<Case> {
-    let sat = helper::read(id, body).ok()?;
+    let sat = helper::read(id, body).ok().filter(|sat| !beyond(sat, body))?;
     let ledger = helper::ledger(id, body).ok()?;
     let plain = helper::plain_body(&sat).ok()?;
     Some(Case { id, body: body.to_vec(), sat, ledger, plain })
@@ -74,7 +87,7 @@ fn case(id: u8, body: &[u8]) -> Option<Case> {
 /// that length.
 fn long(id: u8, form: u64, length: usize, fit: impl Fn(&[u8]) -> bool) -> Vec<Case> {
     let first = u64::from(id.min(5)) + 6 * form;
-    let cases = (0..2000u64).map(|i| gen::long_case(SEED, first + 24 * i));
+    let cases = (0..2000u64).map(|i| gen::long_case(SEED, first + 24 * i, Clocks::Within));
     let whole = cases.filter(|c| c.len() > length && fit(&c[1..]));
     whole.filter_map(|c| case(id, &c[1..=length])).take(WANTED).collect()
 }
@@ -82,7 +95,7 @@ fn long(id: u8, form: u64, length: usize, fit: impl Fn(&[u8]) -> bool) -> Vec<Ca
 /// Bodies of plans of one mode: the plans of long cases, joined while they fit.
 fn plans(mode: u8) -> Vec<Case> {
     let mut pool = Vec::new();
-    for case in (0..80u64).map(|i| gen::long_case(SEED, 3 + 24 * i)) {
+    for case in (0..80u64).map(|i| gen::long_case(SEED, 3 + 24 * i, Clocks::Within)) {
         let mut at = 1;
         for length in helper::plan_lengths(&case[1..]) {
             let plan = &case[at..case.len().min(at + 6 + length)];
@@ -113,6 +126,6 @@ fn joined(plans: &[Vec<u8>]) -> Option<Case> {
 
 /// Bodies of all ids as the generator makes them.
 fn mix() -> Vec<Case> {
-    let cases = (0..).map(|i| gen::case(SEED, i, MIXED_LENGTH));
+    let cases = (0..).map(|i| gen::case(SEED, i, MIXED_LENGTH, Clocks::Within));
     cases.filter_map(|c| case(c[0], &c[1..])).take(MIXED).collect()
 }

@@ -83,14 +83,14 @@ impl Draft {
     pub fn clock(&mut self, rng: &mut Rng) {
         self.any(rng, 33);
         self.spare(rng, 6);
-        self.any(rng, 9);
+        self.put(9, rng.extension());
     }
 
     /// A clock whose fields are tested one by one.
     pub fn loose_clock(&mut self, rng: &mut Rng) {
         self.single(33, rng.value(33));
         self.single(6, rng.reserved(6));
-        self.single(9, rng.value(9));
+        self.single(9, rng.extension());
     }
 
     pub fn stamp(&mut self, rng: &mut Rng) {

@@ -7,11 +7,12 @@ mod plans;
 mod rng;
 
 use draft::Draft;
+pub use rng::Clocks;
 use rng::Rng;
 
 /// Case number `index` of a seed; bodies longer than `longest` are cut there.
-pub fn case(seed: u64, index: u64, longest: usize) -> Vec<u8> {
-    let mut rng = Rng::new(seed, index);
+pub fn case(seed: u64, index: u64, longest: usize, clocks: Clocks) -> Vec<u8> {
+    let mut rng = Rng::new(seed, index, clocks);
     let mut case = match rng.below(100) {
         0..=32 => intact(&mut rng),
         33..=40 => with_leftover(&mut rng),
@@ -28,8 +29,8 @@ pub fn case(seed: u64, index: u64, longest: usize) -> Vec<u8> {
 }
 
 /// Long cases in a fixed round of ids (the sixth is raw) and forms.
-pub fn long_case(seed: u64, index: u64) -> Vec<u8> {
-    let mut rng = Rng::new(seed, index);
+pub fn long_case(seed: u64, index: u64, clocks: Clocks) -> Vec<u8> {
+    let mut rng = Rng::new(seed, index, clocks);
     let id = (index % 6) as usize;
     let shorter = rng.between(1000, 4095);
     match index / 6 % 4 {

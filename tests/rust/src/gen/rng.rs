@@ -1,21 +1,49 @@
 //! Numbers from a seed alone (splitmix64), so that every run gives the same cases.
 
-pub struct Rng(u64);
+/// Which extensions the clocks of a case have.
+#[derive(Clone, Copy, PartialEq)]
+pub enum Clocks {
+    /// One case in eight has some above 299, which S-23 refuses.
+    Any,
+    /// No case has any. The benchmark alone asks for this.
+    #[allow(dead_code)]
+    Within,
+}
+
+/// The largest extension that S-23 lets pass, and the largest that 9 bits hold.
+const LARGEST: u64 = 299;
+const WIDEST: u64 = 511;
+
+pub struct Rng {
+    stream: u64,
+    /// A stream for clocks alone: it changes their extensions, and nothing else of a case.
+    clocks: u64,
+    /// One clock in so many has an extension above 299; none has with 0.
+    beyond: u64,
+}
+
+/// The next number of a stream.
+fn next(stream: &mut u64) -> u64 {
+    *stream = stream.wrapping_add(0x9e37_79b9_7f4a_7c15);
+    let mut z = *stream;
+    z = (z ^ (z >> 30)).wrapping_mul(0xbf58_476d_1ce4_e5b9);
+    z = (z ^ (z >> 27)).wrapping_mul(0x94d0_49bb_1331_11eb);
+    z ^ (z >> 31)
+}
 
 impl Rng {
-    /// The stream of one case depends on the seed and the case's index, not on other cases.
-    pub fn new(seed: u64, index: u64) -> Self {
-        let mut start = Rng(seed);
-        let mixed = start.next() ^ index.wrapping_mul(0xd134_2543_de82_ef95);
-        Rng(mixed)
+    /// The streams of one case depend on the seed and the case's index, not on other cases.
+    pub fn new(seed: u64, index: u64, which: Clocks) -> Self {
+        let mut start = seed;
+        let stream = next(&mut start) ^ index.wrapping_mul(0xd134_2543_de82_ef95);
+        let mut clocks = next(&mut start) ^ stream;
+        let chosen = which == Clocks::Any && next(&mut clocks) % 8 == 0;
+        let often = [2, 2, 4, 30][(next(&mut clocks) % 4) as usize];
+        Rng { stream, clocks, beyond: if chosen { often } else { 0 } }
     }
 
     pub fn next(&mut self) -> u64 {
-        self.0 = self.0.wrapping_add(0x9e37_79b9_7f4a_7c15);
-        let mut z = self.0;
-        z = (z ^ (z >> 30)).wrapping_mul(0xbf58_476d_1ce4_e5b9);
-        z = (z ^ (z >> 27)).wrapping_mul(0x94d0_49bb_1331_11eb);
-        z ^ (z >> 31)
+        next(&mut self.stream)
     }
 
     pub fn below(&mut self, limit: usize) -> usize {
@@ -46,6 +74,23 @@ impl Rng {
             5 => 1,
             6 => self.next() % 400 & max,
             _ => self.next() & max,
+        }
+    }
+
+    /// A clock's extension: 0 and 299, or 300 and 511, more often than others.
+    pub fn extension(&mut self) -> u64 {
+        let drawn = self.value(9);
+        if self.beyond > 0 && next(&mut self.clocks) % self.beyond == 0 {
+            return match drawn {
+                0 => LARGEST + 1,
+                1..=LARGEST => LARGEST + 1 + drawn % (WIDEST - LARGEST),
+                _ => drawn,
+            };
+        }
+        if drawn > LARGEST {
+            drawn - (WIDEST - LARGEST)
+        } else {
+            drawn
         }
     }
 
