@@ -20,7 +20,7 @@ use Rattle.format.proofs.DigitLaws.{length-bits, bits-bytes, value-lt, below-ta
 use Rattle.format.proofs.Good
 use Rattle.format.proofs.Forms.{kept-form, laids-forms}
 use Rattle.format.proofs.EntryLaws.{whole-entries, entries-below}
-use Rattle.format.proofs.TableLaws.{FineLayout, fine-layout, GoodTable, good-one, good-list, good-raw, formOf, kept-formOf, good-formOf, content-good, content-all}
+use Rattle.format.proofs.TableLaws.{FineLayout, fine-layout, fine-before-layout, GoodTable, good-one, good-list, good-raw, formOf, kept-formOf, good-formOf, content-good, content-all}
 use Rattle.runs.specs.Steps.{refusalIn}
 use Rattle.runs.specs.declared.Step.{Step}
 use Rattle.runs.specs.declared.Step.the-variants as step
@@ -99,7 +99,7 @@ module _ (l : List ℕ) where
       eighth : a / 8 ≡ length (bodyOf (editionOf l) (x .what))
       eighth =
           let g = content-good (editionOf l) (length l) (layout (idOf l)) (drop 4 l) (x .what) (fine-layout (idOf l)) (below-drop 256 4 l b) reads in
-          omega (arith, x .size, ap length (body-bits (editionOf l) (fine-layout (idOf l)) (g .good)), length-bits (bodyOf (editionOf l) (x .what)))
+          omega (arith, x .size, ap length (body-bits (editionOf l) (fine-before-layout (layout (idOf l)) (fine-layout (idOf l))) (g .good)), length-bits (bodyOf (editionOf l) (x .what)))
 
       pub measure-big : 4096 < a / 8 → Refused (refuse 26 (a / 8) 4096) ≡ measureOf l
       measure-big m = rw eighth (measure-no (read-on ∙ rw (reads, lt-leb (length (bodyOf (editionOf l) (x .what))) 4096 (omega (arith, eighth)))))

@@ -9,14 +9,14 @@ use borrow.Author.Tests.{le-leb, lt-leb}
 use Rattle.format.specs.Digits.{digits, Below, bitsOf, bytesOf, splice}
 use Rattle.format.specs.Refusals.{refuse}
 use Rattle.format.specs.Syntax.{Edition, Parse, got, refused, andThen}
-use Rattle.format.specs.Whole.{layout, Layout, Table, bodyOf, contentOf, version, ledgerOf, contentAs, idOf, editionOf, ledgerRead}
+use Rattle.format.specs.Whole.{layout, Layout, layoutBefore, Table, bodyOf, contentOf, version, ledgerOf, contentAs, idOf, editionOf, ledgerRead}
 use Rattle.format.specs.Calls.{answer, left, restored, readAnswer, readLeft}
 use Rattle.format.specs.declared.Refusal.{Refusal}
 use Rattle.format.specs.declared.Answer.{Answer}
 use Rattle.format.specs.declared.Answer.the-variants.{Done, Refused}
 use Rattle.format.proofs.DigitLaws.{length-digits, length-bits, bytes-bits, below-append, below-drop}
 use Rattle.format.proofs.ParseLaws.{got-not-refused}
-use Rattle.format.proofs.TableLaws.{FineLayout, fine-layout, GoodTable, formOf, kept-formOf, good-formOf, kept-bytes, content-again}
+use Rattle.format.proofs.TableLaws.{FineLayout, fine-layout, fine-before-layout, content-before, GoodTable, formOf, kept-formOf, good-formOf, kept-bytes, content-again}
 use Rattle.format.proofs.Demand.{ledger-all, ledger-again, read-accepted, accepted-good, ledger-length}
 use Rattle.bits.proofs.Groups.{bits-splice}
 use Rattle.bits.proofs.Splices.{length-splice}
@@ -64,19 +64,23 @@ has-size {l} {m} {id} {n} q e = go (ledgerRead l) refl (sym q ∙ e)
     go (refused x y w) r z = let o : _≡_ {A = ℕ} 0 1 = cc in absurd (omega arith)
 
 module _ {l : List ℕ} {id n : ℕ} (x : Sized l id n) (b : Below 256 l) where
-  good : GoodTable (layout (idOf l)) (x .table)
-  good = accepted-good (read-accepted l (x .table) b (x .reads) .0) .0
+  -- the layout without its tests, by which a ledger's fields are good
+  fine : FineLayout (layoutBefore (layout (idOf l)))
+  fine = fine-before-layout (layout (idOf l)) (fine-layout (idOf l))
+
+  good : GoodTable (layoutBefore (layout (idOf l))) (x .table)
+  good = accepted-good fine (read-accepted l (x .table) b (x .reads) .0) .0
 
   pub sized-framed : Framed l
   unfolding ledgerOf
   sized-framed =
       let t = x .table in
       let a = read-accepted l t b (x .reads) in
-      let c = accepted-good (a .0) in
+      let c = accepted-good fine (a .0) in
       let z : length (ledgerOf (editionOf l) (idOf l) t) ≡ length l = ap length (a .1) in
       record {
         four = omega (arith, z, length-append (digits 256 2 (length (contentOf (editionOf l) t) + 2)) (version (editionOf l) ∷ idOf l ∷ contentOf (editionOf l) t), length-digits 256 2 (length (contentOf (editionOf l) t) + 2));
-        short = omega (arith, z, ledger-length (editionOf l) (a .0), c .1, c .2);
+        short = omega (arith, z, ledger-length (editionOf l) fine (a .0), c .1, c .2);
       }
 
   content : contentAs (editionOf l) (length l) (layout (idOf l)) (drop 4 l) ≡ got (x .table) []
@@ -84,11 +88,12 @@ module _ {l : List ℕ} {id n : ℕ} (x : Sized l id n) (b : Below 256 l) where
   content =
       let t = x .table in
       let a = read-accepted l t b (x .reads) in
-      let c = accepted-good (a .0) in
+      let c = accepted-good fine (a .0) in
       let q : got (formOf (editionOf l) t) [] ≡ got t [] = sym (ledger-again (editionOf l) (a .0)) ∙ ap ledgerRead (a .1) ∙ x .reads in
       let z : formOf (editionOf l) t ≡ t = cc in
       let d : drop 4 l ≡ contentOf (editionOf l) t = ap (drop 4) (sym (a .1)) in
-      rw d (content-again (editionOf l) (length l) (fine-layout (idOf l)) good (omega (arith, c .1, c .2)) ∙ ap (λ (k : Table). got k []) z)
+      rw d (sym (content-before (editionOf l) (length l) (layout (idOf l)) (contentOf (editionOf l) t))
+      ∙ content-again (editionOf l) (length l) fine good (omega (arith, c .1, c .2)) ∙ ap (λ (k : Table). got k []) z)
 
 -- ---- the answer, and what is left in the buffer
 
@@ -128,5 +133,5 @@ module _ {l : List ℕ} {id n : ℕ} (x : Sized l id n) (out : List ℕ) where
       let g = good x b in
       let i = x .same in
       let o : out′ ≡ splice out 0 (bodyOf (editionOf l) t) =
-      bytes-front out out′ (bodyOf (editionOf l) t) ho ho′ (body-bytes (editionOf l) (fine-layout (idOf l)) g) k (omega (arith, x .size)) (again out′ r (content x b) (body-bits (editionOf l) (fine-layout (idOf l)) g) m (rw i at y)) in
+      bytes-front out out′ (bodyOf (editionOf l) t) ho ho′ (body-bytes (editionOf l) (fine x b) g) k (omega (arith, x .size)) (again out′ r (content x b) (body-bits (editionOf l) (fine x b) g) m (rw i at y)) in
       (rw (x .reads, ← x .size, le-leb n (length out) m, i), rw (x .reads, ← x .size, le-leb n (length out) m) o)

@@ -15,8 +15,8 @@ use Rattle.format.specs.Calls.{numberOf, lengthOf, answer, left, filed, relaid,
 use Rattle.format.specs.declared.Refusal.{Refusal}
 use Rattle.format.specs.declared.Answer.{Answer}
 use Rattle.format.specs.declared.Answer.the-variants.{Done, Refused}
-use Rattle.format.proofs.TableLaws.{body-formOf}
-use Rattle.format.proofs.Demand.{body-all, accepted-good, ledger-length, ledger-again, id-of, edition-of}
+use Rattle.format.proofs.TableLaws.{fine-layout, body-formOf}
+use Rattle.format.proofs.Demand.{body-all, accepted-before, accepted-good, ledger-length, ledger-again, id-of, edition-of}
 use Rattle.format.proofs.CallLaws.{wrote-accepted}
 use Rattle.ledger_reader.specs.Measured.{measured, measureOf}
 use Rattle.ledger_reader.specs.declared.Measure.{Measure}
@@ -36,7 +36,7 @@ module _ (ed : Edition) (id : ℕ) (b : List ℕ) (hi : id < 256) (hb : Below 25
     of-ledger =
         let w = wrote-accepted hi hb wrote in (
           ap idOf (sym (w .2)) ∙ id-of ed id (w .0),
-          rw (ap ledgerRead (sym (w .2)) ∙ ledger-again ed (w .1), ap editionOf (sym (w .2)) ∙ edition-of ed id (w .0), w .1 .reads, body-formOf ed (w .0)),
+          rw (ap ledgerRead (sym (w .2)) ∙ ledger-again ed (accepted-before (w .1)), ap editionOf (sym (w .2)) ∙ edition-of ed id (w .0), w .1 .reads, body-formOf ed (w .0)),
         )
 
     pub by-answer : (room : ℕ) → readAnswer (take n out′) room ≡ bodyAnswer ed id b room
@@ -62,8 +62,8 @@ module _ (ed : Edition) (id : ℕ) (b : List ℕ) (hi : id < 256) (hb : Below 25
           → andThen p (λ t rest. got (bodyOf ed t) []) ≡ refused (f .number) (f .need) (f .have)
       go (got t rest) r z =
           let p : Accepted id b t = record { byte = hi; bytes = hb; reads = rw (body-all id b r) at r } in
-          let g = accepted-good p in
-          let k = le-leb (length (ledgerOf ed id t)) room (omega (arith, ledger-length ed p, g .2)) in
+          let g = accepted-good (fine-layout id) p in
+          let k = le-leb (length (ledgerOf ed id t)) room (omega (arith, ledger-length ed (fine-layout id) p, g .2)) in
           let y : Refused f ≡ Done id (length (ledgerOf ed id t)) = rw k at z in
           let o : _≡_ {A = ℕ} 0 1 = cc in
           absurd (omega arith)
