@@ -89,7 +89,7 @@ table-few x h (good-raw g) = omega arith
 pub ids-few : {id : ℕ} {b : List ℕ} {t : Table} → Accepted id b t → (4 * length (firstOfEach (entryIds id t)) ≤ length b) × (length (firstOfEach (entryIds id t)) ≤ 1024)
 unfolding entryIds
 ids-few {id} {b} {t} p =
-    let g = accepted-good p in
+    let g = accepted-good (fine-layout id) p in
     let f = table-few (fine-layout id) (word-entry id) (g .0) in
     let s = first-shorter (map (the (idName id)) (entriesOf t)) in
     let l = length-map (entriesOf t) (the (idName id)) in

@@ -13,6 +13,7 @@ use parts::Part;
 use parts::PartAnswer;
 use parts::part_refusal;
 use parts::read_part;
+use systems::read_systems;
 
 pub struct CellCentre {
     pub centre_latitude: i32,
@@ -92,7 +93,7 @@ fn lists_refusal(r: ListsAnswer) -> Refusal
     }
 }
 
-// Reads the three lists; each is tested once, as a whole, behind its count.
+// Reads the three lists; each is tested once, as a whole, behind its count, and then each system by its clock.
 fn read_lists(s: &[u8], at: usize) -> ListsAnswer
     requires { ⌜ Place (now s) at ⌝ }
     ensures { λ r. ⌜ r ≡ listsAt (now (s .entry)) at ⌝ }
@@ -105,7 +106,7 @@ fn read_lists(s: &[u8], at: usize) -> ListsAnswer
     let Bits::Value { value: new_6, next } = v else {
         return ListsAnswer::Refused(refusal_of(v));
     };
-    let r = read_part(s, next, 7, 80);
+    let r = read_systems(s, next, 7);
     let PartAnswer::Read { part: new, next } = r else {
         return ListsAnswer::Refused(part_refusal(r));
     };
@@ -113,7 +114,7 @@ fn read_lists(s: &[u8], at: usize) -> ListsAnswer
     let Bits::Value { value: old_6, next } = v else {
         return ListsAnswer::Refused(refusal_of(v));
     };
-    let r = read_part(s, next, 8, 80);
+    let r = read_systems(s, next, 8);
     let PartAnswer::Read { part: old, next } = r else {
         return ListsAnswer::Refused(part_refusal(r));
     };

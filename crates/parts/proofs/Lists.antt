@@ -2,7 +2,6 @@
 -- Assumes nothing.
 use Prim.Native.Nat.{ℕ, _+_, _*_, _-_, _/_, _≤_, _<_}
 use mathlib.Core.Path.{_≡_, refl, sym, ap, _∙_}
-use mathlib.Core.Logic.{_⊎_, inl, inr}
 use mathlib.Core.Bool.{Bool, true, false}
 use mathlib.Core.List.{List, _∷_}
 use native.Mathlib.Omega.{arith}
@@ -20,112 +19,66 @@ use Rattle.format.proofs.ReadLaws as laws
 use Rattle.format.proofs.GroupLaws.{Line, fields, ends}
 use Rattle.format.proofs.ListLaws.{many, times-at}
 use Rattle.bits.specs.Read.{Place}
-use Rattle.parts.specs.Parts.{partFrom, partAt, partRefusal}
+use Rattle.parts.specs.Parts.{partFrom, partAt}
 use Rattle.parts.specs.declared.Part.{Part}
 use Rattle.parts.specs.declared.PartAnswer.{PartAnswer}
 use Rattle.parts.specs.declared.PartAnswer.the-variants.{Read, Refused}
 
--- a count, and the lines that it counts, tested under the refusal a
-abbrev pub counted : Name → ℕ → List Line → Syntax → Syntax
-counted c a ls s = field unsigned c 10 (λ n. need a (n * ends 0 ls) (times n (fields ls) s))
+-- a count, the test under the refusal a that so many elements of w bits are there, and what follows, by the count
+abbrev pub counted : Name → ℕ → ℕ → (ℕ → Syntax) → Syntax
+counted c a w k = field unsigned c 10 (λ n. need a (n * w) (k n))
 
-module _ {A : Type 0} (b : List ℕ) (e p : ℕ) (c : Name) (a : ℕ) (ls : List Line) (s : Syntax) (found : List Field → ℕ → A) (fail : Refusal → A) where
+-- ---- a count whose elements are there, or pass the end, or that is cut short itself
+
+module _ {A : Type 0} (b : List ℕ) (e p : ℕ) (c : Name) (a w : ℕ) (k : ℕ → Syntax) (found : List Field → ℕ → A) (fail : Refusal → A) where
   abbrev v : ℕ
   v = valueAt b p 10
 
-  abbrev w : ℕ
-  w = ends 0 ls
+  there : p + 10 + v * w ≤ 8 * length b
+      → read b e (counted c a w k) p found fail ≡ read b e (k v) (p + 10) (λ ts. found (num unsigned c 10 v ∷ ts)) fail
+  there h =
+      laws.field-at b e p found fail unsigned c 10 (λ n. need a (n * w) (k n)) (omega arith) ∙ laws.need-at b e (p + 10) _ fail a (v * w) (k v) (omega arith)
 
-  -- the list is all there, or the same refusal comes of both
-  There : Type 0
-  There =
-      (p + 10 + v * w ≤ 8 * length b) × (partAt b a w p ≡ Read (partFrom w (p + 10) v) (p + 10 + v * w))
-      × (read b e (counted c a ls s) p found fail ≡ read b e s (p + 10 + v * w) (λ ts. found (num unsigned c 10 v ∷ many b (p + 10) v ls ts)) fail)
+  past : p + 10 ≤ 8 * length b → 8 * length b < p + 10 + v * w
+      → read b e (counted c a w k) p found fail ≡ fail (refuse a (v * w) (8 * length b - (p + 10)))
+  past h m =
+      laws.field-at b e p found fail unsigned c 10 (λ n. need a (n * w) (k n)) h ∙ laws.need-no b e (p + 10) _ fail a (v * w) (k v) (omega arith)
 
-  Cut : Type 0
-  Cut = (f : Refusal) × (partAt b a w p ≡ Refused f) × (read b e (counted c a ls s) p found fail ≡ fail f)
+  cut : p ≤ 8 * length b → 8 * length b < p + 10 → read b e (counted c a w k) p found fail ≡ fail (refuse 1 (p + 10) (8 * length b))
+  cut h m = laws.field-no b e p found fail unsigned c 10 (λ n. need a (n * w) (k n)) h m
 
-  abbrev alone : ℕ → Syntax
-  alone n = need a (n * w) end
+module _ (b : List ℕ) (a w p : ℕ) where
+  abbrev alone : List Field → ℕ → PartAnswer
+  alone ts q = Read (partFrom w q (the "count" ts)) (q + the "count" ts * w)
 
-  abbrev whole : ℕ → Syntax
-  whole n = need a (n * w) (times n (fields ls) s)
+  -- the three for a list that is read alone
+  part-there : let n = valueAt b p 10 in p + 10 + n * w ≤ 8 * length b → partAt b a w p ≡ Read (partFrom w (p + 10) n) (p + 10 + n * w)
+  unfolding partAt firstBy
+  part-there h = there b 0 p "count" a w (λ _. end) alone Refused h ∙ laws.end-at b 0 (p + 10) _ Refused (omega arith)
 
-  abbrev ok : List Field → ℕ → PartAnswer
-  ok ts q = Read (partFrom w q (the "count" ts)) (q + the "count" ts * w)
+  part-past : let n = valueAt b p 10 in p + 10 ≤ 8 * length b → 8 * length b < p + 10 + n * w
+      → partAt b a w p ≡ Refused (refuse a (n * w) (8 * length b - (p + 10)))
+  unfolding partAt
+  part-past h m = past b 0 p "count" a w (λ _. end) alone Refused h m
 
-  abbrev ok-more : List Field → ℕ → PartAnswer
-  ok-more ts = ok (num unsigned "count" 10 v ∷ ts)
+  part-cut : p ≤ 8 * length b → 8 * length b < p + 10 → partAt b a w p ≡ Refused (refuse 1 (p + 10) (8 * length b))
+  unfolding partAt
+  part-cut h m = cut b 0 p "count" a w (λ _. end) alone Refused h m
 
-  abbrev more : List Field → ℕ → A
-  more ts = found (num unsigned c 10 v ∷ ts)
-
-  cases : Place b p → There ⊎ Cut
-  unfolding partAt firstBy There Cut
-  cases l = go (leb (p + 10) n) refl
+  cases : {P : Type 0} → let n = valueAt b p 10 in (p + 10 + n * w ≤ 8 * length b → P)
+      → (p + 10 ≤ 8 * length b → 8 * length b < p + 10 + n * w → P) → (8 * length b < p + 10 → P) → P
+  cases {P} one two three = first (leb (p + 10) (8 * length b)) refl
     where
       n : ℕ
-      n = 8 * length b
+      n = p + 10 + valueAt b p 10 * w
 
-      all : p + 10 ≤ n → (t : Bool) → leb (v * w) (n - (p + 10)) ≡ t → There ⊎ Cut
-      all h true r =
-          let m : v * w ≤ n - (p + 10) = leb-true (v * w) (n - (p + 10)) r in
-          inl (
-            omega (arith, m, h),
-            laws.field-at b 0 p ok Refused unsigned "count" 10 alone h ∙ laws.need-at b 0 (p + 10) ok-more Refused a (v * w) end m
-                ∙ laws.end-at b 0 (p + 10) ok-more Refused h,
-            laws.field-at b e p found fail unsigned c 10 whole h ∙ laws.need-at b e (p + 10) more fail a (v * w) (times v (fields ls) s) m
-                ∙ times-at b e (p + 10) v ls s more fail (omega (arith, m, h)),
-          )
-      all h false r =
-          let m : n - (p + 10) < v * w = leb-false (v * w) (n - (p + 10)) r in
-          inr (
-            refuse a (v * w) (n - (p + 10)),
-            laws.field-at b 0 p ok Refused unsigned "count" 10 alone h ∙ laws.need-no b 0 (p + 10) ok-more Refused a (v * w) end m,
-            laws.field-at b e p found fail unsigned c 10 whole h ∙ laws.need-no b e (p + 10) more fail a (v * w) (times v (fields ls) s) m,
-          )
+      second : p + 10 ≤ 8 * length b → (t : Bool) → leb n (8 * length b) ≡ t → P
+      second h true r = one (leb-true _ _ r)
+      second h false r = two h (leb-false _ _ r)
 
-      go : (t : Bool) → leb (p + 10) n ≡ t → There ⊎ Cut
-      go true r = all (leb-true (p + 10) n r) (leb (v * w) (n - (p + 10))) refl
-      go false r =
-          let m : n < p + 10 = leb-false (p + 10) n r in
-          inr (
-            refuse 1 (p + 10) n,
-            laws.field-no b 0 p ok Refused unsigned "count" 10 alone (l .within) m,
-            laws.field-no b e p found fail unsigned c 10 whole (l .within) m,
-          )
-
-  -- a list that `read_part` read, or refused
-  pub got-part : {x : A} {pt : Part} {q : ℕ} {r : PartAnswer} → r ≡ partAt b a w p → r ≡ Read pt q → Place b p
-      → x ≡ read b e s q (λ ts. found (num unsigned c 10 (pt .count) ∷ many b (p + 10) (pt .count) ls ts)) fail → x ≡ read b e (counted c a ls s) p found fail
-  unfolding There Cut
-  got-part {x} {pt} {q} {r} h m l g = go (cases l)
-    where
-      go : There ⊎ Cut → x ≡ read b e (counted c a ls s) p found fail
-      go (inl t) =
-          let z : Read pt q ≡ Read (partFrom w (p + 10) v) (p + 10 + v * w) = sym m ∙ h ∙ t .1 in
-          let y1 : pt ≡ partFrom w (p + 10) v = cc in
-          let y2 : q ≡ p + 10 + v * w = cc in
-          g ∙ ap (λ (k : Part). read b e s q (λ ts. found (num unsigned c 10 (k .count) ∷ many b (p + 10) (k .count) ls ts)) fail) y1
-          ∙ ap (λ (k : ℕ). read b e s k (λ ts. found (num unsigned c 10 v ∷ many b (p + 10) v ls ts)) fail) y2 ∙ sym (t .2)
-      go (inr t) =
-          let z : Read pt q ≡ Refused (t .0) = sym m ∙ h ∙ t .1 in
-          let o : _≡_ {A = ℕ} 0 1 = cc in
-          absurd (omega arith)
-
-  pub cut-part : {x : A} {f g : Refusal} {r : PartAnswer} → r ≡ partAt b a w p → r ≡ Refused f → g ≡ partRefusal r → Place b p
-      → x ≡ fail g → x ≡ read b e (counted c a ls s) p found fail
-  unfolding There Cut partRefusal
-  cut-part {x} {f} {g} {r} h m y l u = go (cases l)
-    where
-      go : There ⊎ Cut → x ≡ read b e (counted c a ls s) p found fail
-      go (inl t) =
-          let z : Refused f ≡ Read (partFrom w (p + 10) v) (p + 10 + v * w) = sym m ∙ h ∙ t .1 in
-          let o : _≡_ {A = ℕ} 0 1 = cc in
-          absurd (omega arith)
-      go (inr t) =
-          let z : g ≡ t .0 = y ∙ ap partRefusal (h ∙ t .1) in
-          u ∙ ap fail z ∙ sym (t .2)
+      first : (t : Bool) → leb (p + 10) (8 * length b) ≡ t → P
+      first true r = second (leb-true _ _ r) (leb n (8 * length b)) refl
+      first false r = three (leb-false _ _ r)
 
 -- what is known where a list was read
 pub record Listed (b : List ℕ) (w p : ℕ) (pt : Part) (q : ℕ) : Type 0 where
@@ -134,19 +87,55 @@ pub record Listed (b : List ℕ) (w p : ℕ) (pt : Part) (q : ℕ) : Type 0 wher
   pub next : q ≡ p + 10 + pt .count * w
   pub within : q ≤ 8 * length b
 
-pub listed : (b : List ℕ) (p a : ℕ) (ls : List Line) {pt : Part} {q : ℕ} {r : PartAnswer} → Place b p → r ≡ partAt b a (ends 0 ls) p
-    → r ≡ Read pt q → Listed b (ends 0 ls) p pt q
-unfolding There Cut
-listed b p a ls {pt} {q} {r} l h m = go (cases b 0 p "count" a ls end (λ ts k. k) (λ f. 0) l)
-  where
-    go : There b 0 p "count" a ls end (λ ts k. k) (λ f. 0) ⊎ Cut b 0 p "count" a ls end (λ ts k. k) (λ f. 0) → Listed b (ends 0 ls) p pt q
-    go (inl t) =
-        let k : ℕ = valueAt b p 10 in
-        let z : Read pt q ≡ Read (partFrom (ends 0 ls) (p + 10) k) (p + 10 + k * ends 0 ls) = sym m ∙ h ∙ t .1 in
-        let y1 : pt ≡ partFrom (ends 0 ls) (p + 10) k = cc in
-        let y2 : q ≡ p + 10 + k * ends 0 ls = cc in
-        rw (y1, y2) (record { start = refl; size = refl; next = refl; within = t .0 })
-    go (inr t) =
-        let z : Read pt q ≡ Refused (t .0) = sym m ∙ h ∙ t .1 in
-        let o : _≡_ {A = ℕ} 0 1 = cc in
-        absurd (omega arith)
+-- no list is both read and refused
+pub not-both : {P : Type 0} {t : Part} {q : ℕ} {f : Refusal} → Read t q ≡ Refused f → P
+not-both e = let z : _≡_ {A = ℕ} 0 1 = cc in absurd (omega arith)
+
+pub listed : {r : PartAnswer} {t : Part} {q : ℕ} (b : List ℕ) (a w p : ℕ) → Place b p → r ≡ partAt b a w p → r ≡ Read t q → Listed b w p t q
+listed {r} {t} {q} b a w p l e m =
+    cases b a w p
+    (λ h. let n : ℕ = valueAt b p 10 in
+    let z : Read t q ≡ Read (partFrom w (p + 10) n) (p + 10 + n * w) = sym m ∙ e ∙ part-there b a w p h in
+    let y1 : t ≡ partFrom w (p + 10) n = cc in
+    let y2 : q ≡ p + 10 + n * w = cc in
+    rw (y1, y2) (record { start = refl; size = refl; next = refl; within = h }))
+    (λ h g. not-both (sym m ∙ e ∙ part-past b a w p h g))
+    (λ h. not-both (sym m ∙ e ∙ part-cut b a w p (l .within) h))
+
+-- ---- what becomes of a list's answer, where it is read in front of others
+
+module _ {A : Type 0} (b : List ℕ) (e p : ℕ) (c : Name) (found : List Field → ℕ → A) (fail : Refusal → A) where
+  -- k: what follows the count, by the count
+  unfoldable pub countThen : (ℕ → Syntax) → PartAnswer → A
+  countThen k (Read t q) = read b e (k (t .count)) (p + 10) (λ ts. found (num unsigned c 10 (t .count) ∷ ts)) fail
+  countThen k (Refused f) = fail f
+
+  -- s: what follows the elements, each of which has the fields ls
+  unfoldable pub listThen : List Line → Syntax → PartAnswer → A
+  listThen ls s (Read t q) = read b e s q (λ ts. found (num unsigned c 10 (t .count) ∷ many b (p + 10) (t .count) ls ts)) fail
+  listThen ls s (Refused f) = fail f
+
+  -- under every name, and whatever is counted, a count and its test do as they do alone
+  pub by-count : (a w : ℕ) (k : ℕ → Syntax) → Place b p → read b e (counted c a w k) p found fail ≡ countThen k (partAt b a w p)
+  unfolding countThen
+  by-count a w k l =
+      cases b a w p
+      (λ h. there b e p c a w k found fail h ∙ ap (countThen k) (sym (part-there b a w p h)))
+      (λ h g. past b e p c a w k found fail h g ∙ ap (countThen k) (sym (part-past b a w p h g)))
+      (λ h. cut b e p c a w k found fail (l .within) h ∙ ap (countThen k) (sym (part-cut b a w p (l .within) h)))
+
+  -- and so does a list whose elements have nothing to test
+  pub by-part : {r : PartAnswer} (a : ℕ) (ls : List Line) (s : Syntax) → Place b p → r ≡ partAt b a (ends 0 ls) p
+      → read b e (counted c a (ends 0 ls) (λ n. times n (fields ls) s)) p found fail ≡ listThen ls s r
+  unfolding countThen listThen
+  by-part {r} a ls s l h = by-count a w (λ n. times n (fields ls) s) l ∙ ap (countThen (λ n. times n (fields ls) s)) (sym h) ∙ go r refl
+    where
+      w : ℕ
+      w = ends 0 ls
+
+      go : (y : PartAnswer) → r ≡ y → countThen (λ n. times n (fields ls) s) y ≡ listThen ls s y
+      go (Refused f) m = refl
+      go (Read t q) m =
+          let o = listed b a w p l h m in
+          times-at b e (p + 10) (t .count) ls s (λ ts. found (num unsigned c 10 (t .count) ∷ ts)) fail (omega (arith, o .next, o .within))
+          ∙ ap (λ (k : ℕ). read b e s k (λ ts. found (num unsigned c 10 (t .count) ∷ many b (p + 10) (t .count) ls ts)) fail) (sym (o .next))

@@ -1,6 +1,7 @@
 -- An element of a list: where its bits lie, and what reading them gives.
 -- Assumes nothing.
 use Prim.Native.Nat.{ℕ, _+_, _*_, _≤_, _<_}
+use Prim.Native.String.{_++_}
 use mathlib.Core.Path.{_≡_, refl, sym, ap, _∙_}
 use mathlib.Core.Bool.{Bool, true, false, not, _&&_}
 use mathlib.Core.List.{List, [], _∷_}
@@ -12,12 +13,15 @@ use Rattle.format.specs.Syntax.{Name, unsigned, Syntax, end, Field, num}
 use Rattle.format.specs.Tables.{u, clock, system}
 use Rattle.format.specs.At.{read}
 use Rattle.format.specs.Digits.{valueAt}
-use Rattle.format.proofs.GroupLaws.{plainly, group}
-use Rattle.bits.specs.Read.{Room}
+use Rattle.format.specs.declared.Refusal.{Refusal}
+use Rattle.format.proofs.GroupLaws.{Line, plainly, group}
+use Rattle.bits.specs.Read.{Place, Room}
 use Rattle.bits.proofs.Reading.{over}
-use Rattle.clocks.specs.Clocks.{clockOf}
+use Rattle.clocks.specs.Clocks.{clockAt, refusalOf}
 use Rattle.clocks.specs.declared.Clock.{Clock}
-use Rattle.clocks.proofs.Clocks.{put, there-clock}
+use Rattle.clocks.specs.declared.ClockAnswer.{ClockAnswer}
+use Rattle.clocks.specs.declared.ClockAnswer.the-variants.{Read, Refused}
+use Rattle.clocks.proofs.Clocks.{put, got-clock, cut-clock, clock-place}
 use Rattle.parts.specs.declared.Part.{Part}
 use Rattle.systems.specs.Systems.{within, elementAt}
 
@@ -72,18 +76,36 @@ module _ {A : Type 0} (size : ℕ) (s : Syntax) (found : List Field → A) (none
 pub element-room : (b : List ℕ) (start count size index : ℕ) → Within (length b) start count size index → Room b (8 * (start + size * index)) (8 * size)
 element-room b start count size index w = record { short = omega (arith, w .short); fits = omega (arith, w .fits) }
 
+-- the lines of a system
+abbrev pub lines : Name → Name → List Line
+lines id time = plainly id 32 ∷ plainly (time ++ "_base") 33 ∷ plainly (time ++ "_reserved_zero_future_use") 6 ∷ plainly (time ++ "_ext") 9 ∷ []
+
+-- the place of a system's clock
+pub clock-behind : (b : List ℕ) (p : ℕ) → Room b p 80 → Place b (p + 32)
+clock-behind b p l = record { short = l .short; within = omega (arith, l .fits) }
+
+module _ {A : Type 0} {x : A} {r : ClockAnswer} (b : List ℕ) (e p : ℕ) (found : List Field → ℕ → A) (fail : Refusal → A) (id time : Name) (s : Syntax) where
+  -- a system whose clock was read, or refused, in front of others
+  pub got-system : {k : Clock} {n : ℕ} → Room b p 80 → r ≡ clockAt b (p + 32) → r ≡ Read k n
+      → x ≡ read b e s n (λ ts. found (num unsigned id 32 (valueAt b p 32) ∷ put time k ts)) fail → x ≡ read b e (system id time s) p found fail
+  got-system l h m q =
+      group b e p (plainly id 32 ∷ []) (clock time s) found fail (omega (arith, l .fits)) (got-clock b e (p + 32) _ fail time s h m (clock-behind b p l) q)
+
+  pub cut-system : {f g : Refusal} → Room b p 80 → r ≡ clockAt b (p + 32) → r ≡ Refused f → g ≡ refusalOf r
+      → x ≡ fail g → x ≡ read b e (system id time s) p found fail
+  cut-system l h m w q =
+      group b e p (plainly id 32 ∷ []) (clock time s) found fail (omega (arith, l .fits)) (cut-clock b e (p + 32) _ fail time s h m w (clock-behind b p l) q)
+
 module _ {A : Type 0} {x : A} (b : List ℕ) (p : ℕ) (found : List Field → A) (none : A) where
-  -- an id of 32 bits alone, and one with a clock behind it
+  -- an id of 32 bits alone, and one with a clock behind it that was read
   pub id-alone : {v : ℕ} (nm : Name) → Room b p 32 → v ≡ valueAt b p 32 → x ≡ found (num unsigned nm 32 v ∷ [])
       → x ≡ read b 0 (u nm 32 end) p (λ ts q. found ts) (λ f. none)
   id-alone nm h e q =
       group b 0 p (plainly nm 32 ∷ []) end _ _ (h .fits)
       (over b 0 (p + 32) _ _ (record { short = h .short; within = h .fits }) (q ∙ ap (λ (n : ℕ). found (num unsigned nm 32 n ∷ [])) e))
 
-  pub id-and-clock : {v : ℕ} {k : Clock} (nm time : Name) → Room b p 80 → v ≡ valueAt b p 32 → k ≡ clockOf b (p + 32)
-      → x ≡ found (num unsigned nm 32 v ∷ put time k []) → x ≡ read b 0 (system nm time end) p (λ ts q. found ts) (λ f. none)
-  id-and-clock {v} {k} nm time h e m q =
-      let r : Room b (p + 32) 48 = record { short = h .short; fits = omega (arith, h .fits) } in
-      group b 0 p (plainly nm 32 ∷ []) (clock time end) _ _ (omega (arith, h .fits))
-      (there-clock b 0 (p + 32) _ _ time end m r
-      (over b 0 (p + 32 + 48) _ _ (record { short = h .short; within = r .fits }) (q ∙ ap (λ (n : ℕ). found (num unsigned nm 32 n ∷ put time k [])) e)))
+  pub id-and-clock : {v n : ℕ} {k : Clock} {r : ClockAnswer} (id time : Name) → Room b p 80 → v ≡ valueAt b p 32
+      → r ≡ clockAt b (p + 32) → r ≡ Read k n → x ≡ found (num unsigned id 32 v ∷ put time k []) → x ≡ read b 0 (system id time end) p (λ ts q. found ts) (λ f. none)
+  id-and-clock {v} {n} {k} id time l e h m q =
+      got-system b 0 p _ _ id time end l h m
+      (over b 0 n _ _ (clock-place (p + 32) m h (clock-behind b p l)) (q ∙ ap (λ (y : ℕ). found (num unsigned id 32 y ∷ put time k [])) e))

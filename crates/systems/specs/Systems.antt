@@ -1,15 +1,19 @@
--- An element of a fragment's list at an index, read by the table's own lines, its values by name.
+-- A list of systems read alone; and an element of a fragment's list at an index, read by the table's own lines, its
+-- values by name.
 -- Assumes nothing: these are definitions.
 use Prim.Native.Nat.{ℕ, _+_, _*_}
 use mathlib.Core.Bool.{Bool, cond, _&&_}
 use mathlib.Core.List.{List}
 use lib.Dec.{leb, ltb}
 use lib.ListN.{length}
-use Rattle.format.specs.Syntax.{Syntax, Field, end}
-use Rattle.format.specs.Tables.{u, system}
+use Rattle.format.specs.Syntax.{Syntax, Field, need, end}
+use Rattle.format.specs.Tables.{bits, u, times, system}
 use Rattle.format.specs.ByName.{the}
 use Rattle.format.specs.At.{read}
+use Rattle.parts.specs.Parts.{partBy}
 use Rattle.parts.specs.declared.Part.{Part}
+use Rattle.parts.specs.declared.PartAnswer.{PartAnswer}
+use Rattle.parts.specs.declared.PartAnswer.the-variants as part
 use Rattle.systems.specs.declared.NewDeliverySystem.{NewDeliverySystem}
 use Rattle.systems.specs.declared.ObsolescentDeliverySystem.{ObsolescentDeliverySystem}
 use Rattle.systems.specs.declared.MaybeDeliverySystemId.{MaybeDeliverySystemId}
@@ -19,11 +23,20 @@ use Rattle.systems.specs.declared.MaybeNewDeliverySystem.the-variants as
 use Rattle.systems.specs.declared.MaybeObsolescentDeliverySystem.{MaybeObsolescentDeliverySystem}
 use Rattle.systems.specs.declared.MaybeObsolescentDeliverySystem.the-variants as old
 
--- the body is no longer than a body may be, the list has an element at the index, and the element's bytes are all in the body
+-- A count, room for so many systems or the refusal a, and then the systems, in order, each refused by its clock if at
+-- all; under which names makes no difference.
+unfoldable pub systemsAt : List ℕ → ℕ → ℕ → PartAnswer
+systemsAt b a p =
+    read b 0 (bits "count" 10 (λ n. need a (n * 80) (times n (system "system_id" "time") end))) p
+    (λ ts q. part.Read (partBy "count" 80 p ts) q) part.Refused
+
+-- the body is no longer than a body may be, the list has an element at the index, and the element's bytes are all in
+-- the body
 unfoldable pub within : ℕ → ℕ → ℕ → ℕ → ℕ → Bool
 within len start count size index = leb len 4096 && ltb index count && leb (start + size * index + size) len
 
--- the element at an index of a list of elements of size bytes, each with the lines s; none where there is none
+-- the element at an index of a list of elements of size bytes, each with the lines s; none where there is none, or
+-- where its lines refuse it
 unfoldable pub elementAt : {A : Type 0} → ℕ → Syntax → (List Field → A) → A → List ℕ → Part → ℕ → A
 elementAt {A} size s found none b part index =
     let element : A = read b 0 s (8 * (part .start + size * index)) (λ ts q. found ts) (λ f. none) in

@@ -1,10 +1,15 @@
-// The elements of a cell fragment's three lists, by their index.
+// A list of a cell fragment's systems; and the elements of its three lists, by their index.
 ghost use mathlib.Core.Path.{_≡_};
 ghost use Prim.Native.Nat.{_≤_};
-ghost use Rattle.systems.specs.Systems.{within, idAt, newAt, obsolescentAt};
+ghost use Rattle.bits.specs.Read.{Place};
+ghost use Rattle.systems.specs.Systems.{systemsAt, within, idAt, newAt, obsolescentAt};
 use bits::value_at;
-use clocks::clock_at;
+use clocks::ClockAnswer;
+use clocks::clock_refusal;
+use clocks::clock_within;
 use parts::Part;
+use parts::PartAnswer;
+use parts::read_part;
 
 pub struct NewDeliverySystem {
     pub new_delivery_system_id: u32,
@@ -35,7 +40,30 @@ pub enum MaybeObsolescentDeliverySystem {
     None,
 }
 
-// Whether a body of len bytes, 4,096 at most, holds the element at an index of a list of so many elements of size bytes from start on.
+// A count of 10 bits, and behind it so many systems: refused under a number of the caller's where they pass the end,
+// and then by the first of their clocks that is refused.
+pub fn read_systems(s: &[u8], at: usize, number: u8) -> PartAnswer
+    requires { ⌜ Place (now s) at ⌝ }
+    ensures { λ r. ⌜ r ≡ systemsAt (now (s .entry)) number at ⌝ }
+{
+    let r = read_part(s, at, number, 80);
+    let PartAnswer::Read { part, .. } = r else {
+        return r;
+    };
+    let count = part.count;
+    let mut i = 0;
+    while i < count {
+        let clock = clock_within(s, at + 10 + 80 * i + 32);
+        let ClockAnswer::Read { .. } = clock else {
+            return PartAnswer::Refused(clock_refusal(clock));
+        };
+        i += 1;
+    }
+    r
+}
+
+// Whether a body of len bytes, 4,096 at most, holds the element at an index of a list of so many elements of size bytes
+// from start on.
 fn is_within(len: usize, start: usize, count: usize, size: usize, index: usize) -> bool
     requires { ⌜ (1 ≤ size) × (size ≤ 10) ⌝ }
     ensures { λ r. ⌜ r ≡ within len start count size index ⌝ }
@@ -67,7 +95,7 @@ pub fn delivery_system_id_at(body: &[u8], part: Part, index: usize) -> MaybeDeli
     MaybeDeliverySystemId::Id(value_at(body, at, 32) as u32)
 }
 
-// The new delivery system at an index.
+// The new delivery system at an index; none also where its clock is refused, as it may be in a part that was not read.
 pub fn new_delivery_system_at(body: &[u8], part: Part, index: usize) -> MaybeNewDeliverySystem
     ensures { λ r. ⌜ r ≡ newAt (now (body .entry)) part index ⌝ }
 {
@@ -77,7 +105,10 @@ pub fn new_delivery_system_at(body: &[u8], part: Part, index: usize) -> MaybeNew
     }
     let at = 8 * (part.start + 10 * index);
     let id = value_at(body, at, 32) as u32;
-    let clock = clock_at(body, at + 32);
+    let r = clock_within(body, at + 32);
+    let ClockAnswer::Read { clock, .. } = r else {
+        return MaybeNewDeliverySystem::None;
+    };
     MaybeNewDeliverySystem::Some(NewDeliverySystem {
         new_delivery_system_id: id,
         time_of_application_base: clock.base,
@@ -86,7 +117,7 @@ pub fn new_delivery_system_at(body: &[u8], part: Part, index: usize) -> MaybeNew
     })
 }
 
-// The obsolescent delivery system at an index.
+// The obsolescent delivery system at an index, likewise.
 pub fn obsolescent_delivery_system_at(
     body: &[u8],
     part: Part,
@@ -100,7 +131,10 @@ pub fn obsolescent_delivery_system_at(
     }
     let at = 8 * (part.start + 10 * index);
     let id = value_at(body, at, 32) as u32;
-    let clock = clock_at(body, at + 32);
+    let r = clock_within(body, at + 32);
+    let ClockAnswer::Read { clock, .. } = r else {
+        return MaybeObsolescentDeliverySystem::None;
+    };
     MaybeObsolescentDeliverySystem::Some(ObsolescentDeliverySystem {
         obsolescent_delivery_system_id: id,
         time_of_obsolescence_base: clock.base,

@@ -4,7 +4,7 @@ use native.Mathlib.Omega.{arith}
 use denote.Ref.{now}
 use Rattle.format.specs.Tables.{delivery}
 use Rattle.bits.proofs.Answers.{got-fits}
-use Rattle.fragment.proofs.Stages.{ids, news, olds, Come, start, One, one, Two, two, Three, three, Four, four, list-cut, field-cut, all-read}
+use Rattle.fragment.proofs.Stages.{Come, start, One, one, Two, two, Three, three, Four, four, ids-cut, systems-cut, field-cut, all-read}
 use borrow.Author.Needs.{needs}
 use Rattle.fragment.proofs.read_lists.Statement.{statement}
 use Rattle.fragment.proofs.read_lists.Tie as tie
@@ -26,7 +26,7 @@ stage3 : (c : tie.After-known-told3) → let c2 = c .before .before .before .bef
     Three (now (a .s)) (a .at) (c1 .before .r .given .0 .0) (c1 .before .r .given .0 .1 .0) (c2 .before .v .given .0 .0)
     (c2 .before .v .given .0 .1 .0)
     (c .before .r2 .given .0 .0) (c .before .r2 .given .0 .1 .0)
-stage3 c = three _ _ (stage2 (c .before .before .before .before)) (c .before .before .before .read-part2 .ensures) (c .before .r2 .given .1)
+stage3 c = three _ _ (stage2 (c .before .before .before .before)) (c .before .before .before .read-systems .ensures) (c .before .r2 .given .1)
 
 stage4 : (c : tie.After-known-told4) → let c3 = c .before .before .before .before in let c2 = c3 .before .before .before .before in
     let c1 = c2 .before .before .before .before in let a = c1 .before .before .before .before .before .args in
@@ -49,7 +49,7 @@ part-refusal-requires c κs = search needs
 
 returns : tie.Need-returns
 returns c =
-    list-cut _ _ "delivery_system_count" 6 ids (begin (c .before .before .before .before .before))
+    ids-cut _ _ (begin (c .before .before .before .before .before))
     (c .before .before .before .read-part .ensures) (c .before .enum-told .given .1) (c .part-refusal .ensures)
 
 read-u-requires : tie.Need-read-u-requires
@@ -69,8 +69,8 @@ returns-2 c =
     field-cut _ _ "reserved_zero_future_use_new" 6 _ (stage1 (c .before .before .before .before) .come)
     (c .before .before .before .read-u .ensures) (c .before .enum-told2 .given .1) (c .refusal-of .ensures)
 
-read-part-requires-2 : tie.Need-read-part-requires-2
-read-part-requires-2 c κs = (stage2 c .come .place, omega arith)
+read-systems-requires : tie.Need-read-systems-requires
+read-systems-requires c κs = stage2 c .come .place
 
 enum-known-r-2 : tie.Need-enum-known-r-2
 enum-known-r-2 c = search needs
@@ -83,8 +83,8 @@ part-refusal-requires-2 c κs = search needs
 
 returns-3 : tie.Need-returns-3
 returns-3 c =
-    list-cut _ _ "new_delivery_system_count" 7 news (stage2 (c .before .before .before .before) .come)
-    (c .before .before .before .read-part2 .ensures) (c .before .enum-told3 .given .1) (c .part-refusal2 .ensures)
+    systems-cut _ _ "new_delivery_system_id" "time_of_application" (stage2 (c .before .before .before .before) .come)
+    (c .before .before .before .read-systems .ensures) (c .before .enum-told3 .given .1) (c .part-refusal2 .ensures)
 
 read-u-requires-2 : tie.Need-read-u-requires-2
 read-u-requires-2 c κs = (stage3 c .come .place, omega arith)
@@ -103,8 +103,8 @@ returns-4 c =
     field-cut _ _ "reserved_zero_future_use_obsolescent" 6 _ (stage3 (c .before .before .before .before) .come)
     (c .before .before .before .read-u2 .ensures) (c .before .enum-told4 .given .1) (c .refusal-of2 .ensures)
 
-read-part-requires-3 : tie.Need-read-part-requires-3
-read-part-requires-3 c κs = (stage4 c .come .place, omega arith)
+read-systems-requires-2 : tie.Need-read-systems-requires-2
+read-systems-requires-2 c κs = stage4 c .come .place
 
 enum-known-r-3 : tie.Need-enum-known-r-3
 enum-known-r-3 c = search needs
@@ -117,8 +117,8 @@ part-refusal-requires-3 c κs = search needs
 
 returns-5 : tie.Need-returns-5
 returns-5 c =
-    list-cut _ _ "obsolescent_delivery_system_count" 8 olds (stage4 (c .before .before .before .before) .come)
-    (c .before .before .before .read-part3 .ensures) (c .before .enum-told5 .given .1) (c .part-refusal3 .ensures)
+    systems-cut _ _ "obsolescent_delivery_system_id" "time_of_obsolescence" (stage4 (c .before .before .before .before) .come)
+    (c .before .before .before .read-systems2 .ensures) (c .before .enum-told5 .given .1) (c .part-refusal3 .ensures)
 
 cast-t24 : tie.Need-cast-t24
 cast-t24 c = search got-fits
@@ -128,7 +128,7 @@ cast-t25 c = search got-fits
 
 returns-6 : tie.Need-returns-6
 returns-6 c =
-    all-read _ _ (stage4 (c .before .before .before .before)) (c .before .before .before .read-part3 .ensures) (c .before .r3 .given .1)
+    all-read _ _ (stage4 (c .before .before .before .before)) (c .before .before .before .read-systems2 .ensures) (c .before .r3 .given .1)
 
 pub read-lists-spec : {M : Type 1} → statement M
 read-lists-spec =
@@ -144,7 +144,7 @@ read-lists-spec =
     enum-told-2
     refusal-of-requires
     returns-2
-    read-part-requires-2
+    read-systems-requires
     enum-known-r-2
     enum-told-3
     part-refusal-requires-2
@@ -154,7 +154,7 @@ read-lists-spec =
     enum-told-4
     refusal-of-requires-2
     returns-4
-    read-part-requires-3
+    read-systems-requires-2
     enum-known-r-3
     enum-told-5
     part-refusal-requires-3

@@ -1,4 +1,5 @@
--- `obsolescent_delivery_system_at` meets its contract: an element that is there is read from its own bits.
+-- `obsolescent_delivery_system_at` meets its contract: an element that is there is read from its own bits, or refused
+-- by its clock.
 -- Assumes nothing.
 use mathlib.Core.Path.{refl}
 use Prim.Native.Nat.{_+_, _*_}
@@ -10,7 +11,7 @@ use Rattle.format.specs.ByName.{firstBy}
 use Rattle.bits.specs.Read.{Room}
 use Rattle.bits.proofs.Answers.{value-fits}
 use Rattle.systems.specs.Systems.{obsolescentOf}
-use Rattle.systems.proofs.Elements.{Within, holds, no-element, element, element-room, id-and-clock}
+use Rattle.systems.proofs.Elements.{Within, holds, no-element, element, element-room, cut-system, id-and-clock}
 use Rattle.systems.proofs.obsolescent_delivery_system_at.Statement.{statement}
 use Rattle.systems.proofs.obsolescent_delivery_system_at.Tie as tie
 
@@ -43,19 +44,33 @@ value-at-requires c κs =
 cast-id : tie.Need-cast-id
 cast-id c = search value-fits
 
-add-clock-at : tie.Need-add-clock-at
-add-clock-at c = omega (arith, known (c .before .before) .fits, known (c .before .before) .short)
+add-clock-within : tie.Need-add-clock-within
+add-clock-within c = omega (arith, known (c .before .before) .fits, known (c .before .before) .short)
 
-clock-at-requires : tie.Need-clock-at-requires
-clock-at-requires c κs =
+clock-within-requires : tie.Need-clock-within-requires
+clock-within-requires c κs =
     let r = room (c .before .before) in record { short = r .short; fits = omega (arith, r .fits) }
 
+enum-known-r : tie.Need-enum-known-r
+enum-known-r c = search needs
+
+enum-told : tie.Need-enum-told
+enum-told c = search needs
+
 returns-2 : tie.Need-returns-2
-unfolding firstBy obsolescentOf
 returns-2 c =
-    let k = c .before .before .before in
+    let w = c .before .before in
+    let k = w .before .before .before in
     element 10 _ _ _ _ _ _ (k .before .is-within .ensures) (k .if1 .left)
-    (id-and-clock _ _ _ _ "obsolescent_delivery_system_id" "time_of_obsolescence" (room k) (c .before .value-at .ensures) (c .clock-at .ensures) refl)
+    (cut-system _ _ _ _ _ "obsolescent_delivery_system_id" "time_of_obsolescence" _ (room k) (w .clock-within .ensures) (c .enum-told .given .1) refl refl)
+
+returns-3 : tie.Need-returns-3
+unfolding firstBy obsolescentOf
+returns-3 c =
+    let w = c .before .before .before in
+    let k = w .before .before .before in
+    element 10 _ _ _ _ _ _ (k .before .is-within .ensures) (k .if1 .left)
+    (id-and-clock _ _ _ _ "obsolescent_delivery_system_id" "time_of_obsolescence" (room k) (w .before .value-at .ensures) (w .clock-within .ensures) (c .before .r .given .1) refl)
 
 pub obsolescent-delivery-system-at-spec : {M : Type 1} → statement M
 obsolescent-delivery-system-at-spec =
@@ -68,6 +83,9 @@ obsolescent-delivery-system-at-spec =
     mul-at-2
     value-at-requires
     cast-id
-    add-clock-at
-    clock-at-requires
-    returns-2)
+    add-clock-within
+    clock-within-requires
+    enum-known-r
+    enum-told
+    returns-2
+    returns-3)
