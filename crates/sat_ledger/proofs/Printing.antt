@@ -16,6 +16,7 @@ use Rattle.format.specs.declared.Refusal.{Refusal}
 use Rattle.format.specs.declared.Answer.{Answer}
 use Rattle.format.specs.declared.Answer.the-variants.{Done, Refused}
 use Rattle.format.proofs.DigitLaws.{below-of}
+use Rattle.format.proofs.TableLaws.{fine-layout}
 use Rattle.format.proofs.Demand.{body-all, accepted-good, ledger-length}
 use Rattle.format.proofs.CallLaws.{left-length, write-exactly, result-given}
 use Rattle.ledger_text.specs.Text.{ascii, hexLine, refusalLine, Stored}
@@ -58,7 +59,7 @@ module _ (id : ℕ) (b : List ℕ) where
       go (got t r) q =
           let reads : bodyRead id b ≡ got t [] = rw (body-all id b q) at q in
           let p : Accepted id b t = record { byte = hi; bytes = hb; reads = reads } in
-          let fits : length (ledgerOf edition-1 id t) ≤ room = omega (arith, ledger-length edition-1 p, accepted-good p .2) in
+          let fits : length (ledgerOf edition-1 id t) ≤ room = omega (arith, ledger-length edition-1 (fine-layout id) p, accepted-good (fine-layout id) p .2) in
           let d = answer-done room (filed-got reads) fits in
           let o : _≡_ {A = ℕ} 0 1 = cc in
           absurd (omega arith)
