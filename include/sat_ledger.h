@@ -59,16 +59,18 @@
  * 26      ledger: its plain or kept body has more than 4,096 bytes    that length, 4096
  * 28      ledger of edition 2: no body has a plan with this length,   byte place behind the filler's count, 0
  *         these raw bytes and this filler
+ * 30      the extension of a clock in the body is above 299           the extension, 299
  *
- * The calls that take a body refuse by 1 to 22, the same bodies by the same numbers but for 22; sat_ledger_read refuses
- * by 22 to 26 and 28. A refusal by 22 comes last.
+ * The calls that take a body refuse by 1 to 22 and 30, the same bodies by the same numbers but for 22; sat_ledger_read
+ * refuses by 22 to 26 and 28. A refusal by 22 comes last. A ledger that holds an extension above 299, as ledgers from
+ * before 30 may, is read as any other; the calls that take a body refuse the body that comes back by 30.
  *
- * sat_clock_order refuses nothing. It tells how a clock reading, base and extension, stands to another: 0 the same
- * instant, 1 earlier, 2 later, 3 opposite. A reading has 300 * base + ext ticks, of the low 33 bits of the base and the
- * low 9 of the extension; the clock turns over after 300 * 2^33 ticks, and full turns do not count. The first reading
- * is earlier if the other follows it by 1 tick or more, but by less than half a turn; later if it follows the other so;
- * opposite if just half a turn lies between them. This is no order to sort by: of three readings each may be earlier
- * than the next, all round.
+ * sat_clock_order refuses nothing, whatever the extensions. It tells how a clock reading, base and extension, stands to
+ * another: 0 the same instant, 1 earlier, 2 later, 3 opposite. A reading has 300 * base + ext ticks, of the low 33 bits
+ * of the base and the low 9 of the extension; the clock turns over after 300 * 2^33 ticks, and full turns do not count.
+ * The first reading is earlier if the other follows it by 1 tick or more, but by less than half a turn; later if it
+ * follows the other so; opposite if just half a turn lies between them. This is no order to sort by: of three readings
+ * each may be earlier than the next, all round.
  */
 #ifndef SAT_LEDGER_H
 #define SAT_LEDGER_H

@@ -130,7 +130,6 @@ pub record Told (b : List ℕ) (p : ℕ) (k : Clock) (n : ℕ) : Type 0 where
   pub clock : k ≡ clockOf b p
   pub next : n ≡ p + 48
   pub there : p + 48 ≤ 8 * length b
-  pub small : k .ext ≤ 299
 
 -- no clock is both read and refused
 not-both : {P : Type 0} {k : Clock} {n : ℕ} {f : Refusal} → Read k n ≡ Refused f → P
@@ -140,8 +139,7 @@ pub told : (b : List ℕ) (p : ℕ) {k : Clock} {n : ℕ} {r : ClockAnswer} → 
 told b p {k} {n} {r} l e m =
     cases b p
     (λ h g. let z : Read k n ≡ Read (clockOf b p) (p + 48) = sym m ∙ e ∙ clock-there b p h g in
-    let y : k ≡ clockOf b p = cc in
-    record { clock = y; next = cc; there = h; small = rw y g })
+    record { clock = cc; next = cc; there = h })
     (λ h g. not-both (sym m ∙ e ∙ clock-above b p h g))
     (λ h. not-both (sym m ∙ e ∙ clock-cut b p (l .within) h))
 

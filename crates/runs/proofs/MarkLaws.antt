@@ -1,14 +1,14 @@
 -- What a field is, by its mark.
 -- Assumes nothing.
 use Prim.Native.Nat.{ℕ, zero, suc, _+_, _-_, _*_, _%_, _^_, _≤_, _<_}
-use mathlib.Core.Path.{_≡_, refl, subst}
+use mathlib.Core.Path.{_≡_, refl}
 use mathlib.Core.Bool.{Bool, true, false, cond, _&&_, _||_}
 use mathlib.Core.List.{List, [], _∷_}
 use native.Mathlib.Omega.{arith}
 use lib.Dec.{T, leb, ltb, eqb, leb→le, le→leb}
 use lib.ListN.{length, getD}
 use lib.Pow.{pow-mono}
-use borrow.Author.Tests.{le-ltb, lt-ltb, ltb-true, leb-true, leb-false, eqb-true, eq-eqb, ne-eqb}
+use borrow.Author.Tests.{le-ltb, lt-ltb, ltb-true, leb-true, leb-false, eqb-true, ne-eqb}
 use Rattle.format.specs.Syntax.{Sign, unsigned, signed}
 use Rattle.format.specs.Ledger.{size}
 use Rattle.format.proofs.Good.{widest}
@@ -48,23 +48,20 @@ Facts g w = (1 ≤ w) × (w ≤ 64) × Sized w (size g w) × T (leb w (widest g)
 pub mark-facts : (c : ℕ) → T (markOk c) → MarkFacts c
 unfolding signOf widthOf sizeOf
 mark-facts c h =
-    let f = special (eqb c ext) refl h in
+    let f = go (ltb c 128) h in
     record { some = f .0; most = f .1; one = f .2 .0; eight = f .2 .1; less = f .2 .2; room = f .2 .3; ledger = f .3 }
   where
-    go : (t : Bool) → T (cond t (leb 1 c && leb c 64) (leb 132 c && leb c 160)) → Facts (cond t unsigned signed) (cond t c (c - 128))
+    above : (t : Bool) → eqb c ext ≡ t → 132 ≤ c → c ≤ 160 → Facts (cond t unsigned signed) (c - 128)
+    above true e p q = rw (eqb-true c ext e) (omega arith, omega arith, omega arith, tt)
+    above false e p q = (omega arith, omega arith, omega arith, le→leb (c - 128) 32 (omega arith))
+
+    go : (t : Bool) → T (cond t (leb 1 c && leb c 64) (leb 132 c && leb c 160)) → Facts (cond (t || eqb c ext) unsigned signed) (cond t c (c - 128))
     go true h =
         let z = both (leb 1 c) (leb c 64) h in
         (leb→le 1 c (z .0), leb→le c 64 (z .1), sizes c (leb→le 1 c (z .0)) (leb→le c 64 (z .1)), z .1)
     go false h =
         let z = both (leb 132 c) (leb c 160) h in
-        let p : 132 ≤ c = leb→le 132 c (z .0) in
-        let q : c ≤ 160 = leb→le c 160 (z .1) in
-        (omega arith, omega arith, omega arith, le→leb (c - 128) 32 (omega arith))
-
-    special : (t : Bool) → eqb c ext ≡ t → T (t || cond (ltb c 128) (leb 1 c && leb c 64) (leb 132 c && leb c 160))
-        → Facts (cond (ltb c 128) unsigned signed) (cond t 9 (cond (ltb c 128) c (c - 128)))
-    special true e h = rw (eqb-true c ext e) (omega arith, omega arith, omega arith, tt)
-    special false e h = go (ltb c 128) h
+        above (eqb c ext) refl (leb→le 132 c (z .0)) (leb→le c 160 (z .1))
 
 -- a signed field's powers, as the machine makes them
 pub record Powers (c : ℕ) : Type 0 where
@@ -76,13 +73,10 @@ pub record Powers (c : ℕ) : Type 0 where
   pub width : widthOf c ≡ c - 128
   pub sign : signOf c ≡ signed
 
-pub powers : (c : ℕ) → T (markOk c) → 128 ≤ c → Powers c
+pub powers : (c : ℕ) → T (markOk c) → 128 ≤ c → (c ≡ ext → ⊥) → Powers c
 unfolding widthOf signOf
-powers c h m = go (ltb c 128) refl (subst (λ (t : Bool). T (t || cond (ltb c 128) (leb 1 c && leb c 64) (leb 132 c && leb c 160))) none h)
+powers c h m n = go (ltb c 128) refl h
   where
-    none : eqb c ext ≡ false
-    none = ne-eqb c ext (λ e. omega arith)
-
     go : (t : Bool) → ltb c 128 ≡ t → T (cond t (leb 1 c && leb c 64) (leb 132 c && leb c 160)) → Powers c
     go true e h = absurd (omega (arith, ltb-true c 128 e))
     go false e h =
@@ -96,9 +90,18 @@ powers c h m = go (ltb c 128) refl (subst (λ (t : Bool). T (t || cond (ltb c 12
           whole = one-shl (c - 128) (omega arith);
           half = one-shl (c - 128 - 1) (omega arith);
           small = pow-mono l;
-          width = rw (none, le-ltb c 128 m);
-          sign = rw (le-ltb c 128 m);
+          width = rw (le-ltb c 128 m);
+          sign = rw (le-ltb c 128 m, ne-eqb c ext n);
         }
+
+-- an extension's mark is not below 128
+pub not-ext : {c : ℕ} → c < 128 → c ≡ ext → ⊥
+not-ext h e = omega arith
+
+-- the bits of an extension
+pub width-ext : (c : ℕ) → c ≡ ext → widthOf c ≡ 9
+unfolding widthOf
+width-ext c h = rw h
 
 pub marks-at : (cs : List ℕ) (i : ℕ) → T (marksOk cs) → i < length cs → T (markOk (getD cs i 0))
 marks-at [] i h l = absurd (omega arith)
@@ -106,25 +109,26 @@ marks-at (c ∷ cs) zero h l = both (markOk c) (marksOk cs) h .0
 marks-at (c ∷ cs) (suc i) h l = marks-at cs i (both (markOk c) (marksOk cs) h .1) (omega arith)
 
 -- a field's bytes and its number there, by its kind
-pub size-signed : (c : ℕ) → 128 ≤ c → sizeOf c ≡ 4
+pub size-signed : (c : ℕ) → 128 ≤ c → (c ≡ ext → ⊥) → sizeOf c ≡ 4
 unfolding sizeOf signOf
-size-signed c h = rw (le-ltb c 128 h)
+size-signed c h n = rw (le-ltb c 128 h, ne-eqb c ext n)
 
-pub size-unsigned : (c : ℕ) → c < 128 → sizeOf c ≡ cond (leb (widthOf c) 8) 1 (cond (leb (widthOf c) 16) 2 (cond (leb (widthOf c) 32) 4 8))
-unfolding sizeOf signOf
+pub size-ext : (c : ℕ) → c ≡ ext → sizeOf c ≡ 2
+unfolding sizeOf signOf widthOf
+size-ext c h = rw h
+
+pub size-unsigned : (c : ℕ) → c < 128 → sizeOf c ≡ cond (leb c 8) 1 (cond (leb c 16) 2 (cond (leb c 32) 4 8))
+unfolding sizeOf signOf widthOf
 size-unsigned c h = rw (lt-ltb c 128 h)
 
-pub shown-signed : (c v : ℕ) → 128 ≤ c → shownOf c v ≡ cond (ltb v (2 ^ (c - 128 - 1))) v (v + (2 ^ 32 - 2 ^ (c - 128)))
+pub shown-signed : (c v : ℕ) → 128 ≤ c → (c ≡ ext → ⊥) → shownOf c v ≡ cond (ltb v (2 ^ (c - 128 - 1))) v (v + (2 ^ 32 - 2 ^ (c - 128)))
 unfolding shownOf signOf widthOf
-shown-signed c v h =
-    let none : eqb c ext ≡ false = ne-eqb c ext (λ e. omega arith) in
-    rw (none, le-ltb c 128 h)
+shown-signed c v h n = rw (le-ltb c 128 h, ne-eqb c ext n)
 
 pub shown-unsigned : (c v : ℕ) → c < 128 → shownOf c v ≡ v
 unfolding shownOf signOf widthOf
 shown-unsigned c v h = rw (lt-ltb c 128 h)
 
--- an extension has 9 bits
-pub width-ext : (c : ℕ) → c ≡ ext → widthOf c ≡ 9
-unfolding widthOf
-width-ext c h = rw (eq-eqb c ext h)
+pub shown-ext : (c v : ℕ) → c ≡ ext → shownOf c v ≡ v
+unfolding shownOf signOf widthOf
+shown-ext c v h = rw h

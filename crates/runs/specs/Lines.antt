@@ -1,5 +1,5 @@
--- Runs of fields as bytes that code goes by. A mark: w for a field of w bits, 128 + w for a signed one; a clock's
--- extension has one of its own.
+-- Runs of fields as bytes that code goes by. A mark: w for a field of w bits, 128 + w for a signed one; but 128 + 9 is a
+-- clock's extension.
 -- Assumes nothing: these are definitions.
 use Prim.Native.Nat.{ℕ, _+_, _-_}
 use mathlib.Core.Bool.{Bool, true, cond, _&&_, _||_}
@@ -8,15 +8,15 @@ use lib.Dec.{ltb, leb, eqb}
 use Rattle.format.specs.Syntax.{Name, Sign, unsigned, signed, Syntax, field, atMost}
 use Rattle.format.specs.Ledger.{size, widened}
 
--- the mark of a clock's extension: 9 bits, of which a body's reading tests the number (S-23)
+-- the mark of a clock's extension: 9 bits, whose number a body's reading tests (S-23)
 abbrev pub ext : ℕ
-ext = 73
+ext = 137
 
 unfoldable pub signOf : ℕ → Sign
-signOf c = cond (ltb c 128) unsigned signed
+signOf c = cond (ltb c 128 || eqb c ext) unsigned signed
 
 unfoldable pub widthOf : ℕ → ℕ
-widthOf c = cond (eqb c ext) 9 (cond (ltb c 128) c (c - 128))
+widthOf c = cond (ltb c 128) c (c - 128)
 
 -- the bytes of a field in a ledger, and the number there
 unfoldable pub sizeOf : ℕ → ℕ
@@ -25,9 +25,9 @@ sizeOf c = size (signOf c) (widthOf c)
 unfoldable pub shownOf : ℕ → ℕ → ℕ
 shownOf c v = widened (signOf c) (widthOf c) v
 
--- a mark that there is: an extension, or 1 to 64 bits, or 4 to 32 bits signed
+-- a mark that there is: 1 to 64 bits, or 4 to 32 bits signed, or an extension
 abbrev pub markOk : ℕ → Bool
-markOk c = eqb c ext || cond (ltb c 128) (leb 1 c && leb c 64) (leb 132 c && leb c 160)
+markOk c = cond (ltb c 128) (leb 1 c && leb c 64) (leb 132 c && leb c 160)
 
 abbrev pub marksOk : List ℕ → Bool
 marksOk [] = true

@@ -37,9 +37,6 @@ pub fn step_refusal(step: Step) -> Refusal
 pub fn width_of(mark: u8) -> usize
     ensures { λ r. ⌜ r ≡ widthOf mark ⌝ }
 {
-    if mark == EXT {
-        return 9;
-    }
     if mark < 128 {
         return mark as usize;
     }
@@ -51,25 +48,31 @@ pub fn size_of(mark: u8) -> usize
     ensures { λ r. ⌜ r ≡ sizeOf mark ⌝ }
 {
     if 128 <= mark {
+        if mark == EXT {
+            return 2;
+        }
         return 4;
     }
-    let width = width_of(mark);
-    if width <= 8 {
+    if mark <= 8 {
         return 1;
     }
-    if width <= 16 {
+    if mark <= 16 {
         return 2;
     }
-    if width <= 32 {
+    if mark <= 32 {
         return 4;
     }
     8
 }
 
-// The number that is tested where a field's number is v: an extension's; 0 of any other field.
+// The number that is tested where a field's number is v: an extension's; 0 of any other field. Most marks are below 128,
+// and the test of that is one that the functions around it make too.
 pub fn ext_of(mark: u8, v: u64) -> u64
     ensures { λ r. ⌜ r ≡ extOf mark v ⌝ }
 {
+    if mark < 128 {
+        return 0;
+    }
     if mark == EXT {
         return v;
     }
@@ -83,6 +86,9 @@ pub fn shown_of(mark: u8, v: u64) -> u64
     ensures { λ r. ⌜ r ≡ shownOf mark v ⌝ }
 {
     if mark < 128 {
+        return v;
+    }
+    if mark == EXT {
         return v;
     }
     let w = mark - 128;

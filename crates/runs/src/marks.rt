@@ -1,9 +1,9 @@
-// The runs of fields that the tables are made of, each with its marks: a field's bits, and 128 more where it is signed;
-// a clock's extension has a mark of its own, since a body's reading tests its number.
+// The runs of fields that the tables are made of, each with its marks: a field's bits, and 128 more where it is signed or
+// where its number is tested, as a clock's extension is in a body.
 // A run stands here once, for both directions of the ledger; the comment above it names its fields in their order.
 
-// A clock's extension: 9 bits. A clock is three marks: 33, 6, EXT.
-pub const EXT: u8 = 73;
+// A clock's extension: 9 bits, tested. A clock is three marks: 33, 6, EXT.
+pub const EXT: u8 = 137;
 
 // Id 0: satellite_id, reserved, position_system.
 pub const SATELLITE: [u8; 3] = [24, 7, 1];

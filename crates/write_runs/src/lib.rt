@@ -70,11 +70,14 @@ fn damaged(ext: u64) -> Step
     })
 }
 
-// The number that is tested of a field that is there; it is read only where there is a test.
+// The number that is tested of a field that is there, as `ext_of` has it; it is read only where there is a test.
 fn ext_at(body: &[u8], at: usize, mark: u8) -> u64
     requires { ⌜ Room (now body) at (widthOf mark) ⌝ }
     ensures { λ r. ⌜ r ≡ extOf mark (valueAt (now (body .entry)) at (widthOf mark)) ⌝ }
 {
+    if mark < 128 {
+        return 0;
+    }
     if mark == EXT {
         return value_at(body, at, 9);
     }

@@ -10,16 +10,12 @@ returns : tie.Need-returns
 unfolding widthOf
 returns c = search tests
 
+cast-result : tie.Need-cast-result
+cast-result c = search needs
+
 returns-2 : tie.Need-returns-2
 unfolding widthOf
 returns-2 c = search tests
 
-cast-result : tie.Need-cast-result
-cast-result c = search needs
-
-returns-3 : tie.Need-returns-3
-unfolding widthOf
-returns-3 c = search tests
-
 pub width-of-spec : {M : Type 1} → statement M
-width-of-spec = tie.close (tie.spec returns returns-2 cast-result returns-3)
+width-of-spec = tie.close (tie.spec returns cast-result returns-2)
