@@ -8,7 +8,7 @@ use native.Mathlib.Omega.{arith}
 use lib.Dec.{T, leb, ltb, eqb, leb→le, le→leb}
 use lib.ListN.{length, getD}
 use lib.Pow.{pow-mono}
-use borrow.Author.Tests.{le-ltb, lt-ltb, ltb-true, leb-true, leb-false, eqb-true, ne-eqb}
+use borrow.Author.Tests.{le-ltb, lt-ltb, ltb-true, leb-true, leb-false, eqb-true, eqb-false, ne-eqb}
 use Rattle.format.specs.Syntax.{Sign, unsigned, signed}
 use Rattle.format.specs.Ledger.{size}
 use Rattle.format.proofs.Good.{widest}
@@ -63,7 +63,7 @@ mark-facts c h =
         let z = both (leb 132 c) (leb c 160) h in
         above (eqb c ext) refl (leb→le 132 c (z .0)) (leb→le c 160 (z .1))
 
--- a signed field's powers, as the machine makes them
+-- the powers of a field whose mark is not below 128, as the machine makes them
 pub record Powers (c : ℕ) : Type 0 where
   pub most : c - 128 ≤ 32
   pub some : 4 ≤ c - 128
@@ -71,11 +71,10 @@ pub record Powers (c : ℕ) : Type 0 where
   pub half : 1 * 2 ^ (c - 128 - 1) % 2 ^ 64 ≡ 2 ^ (c - 128 - 1)
   pub small : 2 ^ (c - 128) ≤ 2 ^ 32
   pub width : widthOf c ≡ c - 128
-  pub sign : signOf c ≡ signed
 
-pub powers : (c : ℕ) → T (markOk c) → 128 ≤ c → (c ≡ ext → ⊥) → Powers c
-unfolding widthOf signOf
-powers c h m n = go (ltb c 128) refl h
+pub powers : (c : ℕ) → T (markOk c) → 128 ≤ c → Powers c
+unfolding widthOf
+powers c h m = go (ltb c 128) refl h
   where
     go : (t : Bool) → ltb c 128 ≡ t → T (cond t (leb 1 c && leb c 64) (leb 132 c && leb c 160)) → Powers c
     go true e h = absurd (omega (arith, ltb-true c 128 e))
@@ -91,12 +90,7 @@ powers c h m n = go (ltb c 128) refl h
           half = one-shl (c - 128 - 1) (omega arith);
           small = pow-mono l;
           width = rw (le-ltb c 128 m);
-          sign = rw (le-ltb c 128 m, ne-eqb c ext n);
         }
-
--- an extension's mark is not below 128
-pub not-ext : {c : ℕ} → c < 128 → c ≡ ext → ⊥
-not-ext h e = omega arith
 
 -- the bits of an extension
 pub width-ext : (c : ℕ) → c ≡ ext → widthOf c ≡ 9
@@ -132,3 +126,11 @@ shown-unsigned c v h = rw (lt-ltb c 128 h)
 pub shown-ext : (c v : ℕ) → c ≡ ext → shownOf c v ≡ v
 unfolding shownOf signOf widthOf
 shown-ext c v h = rw h
+
+-- a number without the top bit stands as it is, signed or not
+pub shown-low : (c v : ℕ) → 128 ≤ c → v < 2 ^ (c - 128 - 1) → shownOf c v ≡ v
+shown-low c v h l = go (eqb c ext) refl
+  where
+    go : (t : Bool) → eqb c ext ≡ t → shownOf c v ≡ v
+    go true e = shown-ext c v (eqb-true c ext e)
+    go false e = rw (shown-signed c v h (eqb-false c ext e), lt-ltb v (2 ^ (c - 128 - 1)) l)

@@ -65,14 +65,10 @@ pub fn size_of(mark: u8) -> usize
     8
 }
 
-// The number that is tested where a field's number is v: an extension's; 0 of any other field. Most marks are below 128,
-// and the test of that is one that the functions around it make too.
+// The number that is tested where a field's number is v: an extension's; 0 of any other field.
 pub fn ext_of(mark: u8, v: u64) -> u64
     ensures { λ r. ⌜ r ≡ extOf mark v ⌝ }
 {
-    if mark < 128 {
-        return 0;
-    }
     if mark == EXT {
         return v;
     }
@@ -88,11 +84,11 @@ pub fn shown_of(mark: u8, v: u64) -> u64
     if mark < 128 {
         return v;
     }
-    if mark == EXT {
-        return v;
-    }
     let w = mark - 128;
     if v < 1u64 << (w - 1) {
+        return v;
+    }
+    if mark == EXT {
         return v;
     }
     v + ((1u64 << 32) - (1u64 << w))

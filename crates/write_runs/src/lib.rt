@@ -75,9 +75,6 @@ fn ext_at(body: &[u8], at: usize, mark: u8) -> u64
     requires { ⌜ Room (now body) at (widthOf mark) ⌝ }
     ensures { λ r. ⌜ r ≡ extOf mark (valueAt (now (body .entry)) at (widthOf mark)) ⌝ }
 {
-    if mark < 128 {
-        return 0;
-    }
     if mark == EXT {
         return value_at(body, at, 9);
     }
