@@ -261,8 +261,8 @@ planless m p (g-raw nm bs h a) = g-raw nm bs h a
 -- ---- what is asked of a description
 
 -- Widths are ones that a ledger has; refusals have numbers; tests are those of extensions; what `need` asks for
--- follows; slots and raw bytes start on a byte and an entry ends on one; no plan stands in a plan; a ledger takes at most
--- a byte for four bits, also with a plan's length and the filler's count.
+-- follows; slots and raw bytes start on a byte and an entry ends on one; no plan stands in a plan; a ledger takes at
+-- most a byte for four bits, also with a plan's length and the filler's count.
 -- b: the bits before, from a place that starts a byte; c: their bytes in the ledger
 abbrev pub Fine : Bool → ℕ → ℕ → Syntax → Type 0
 Fine i b c end = (b % 8 ≡ 0) × T (leb (4 * c) b)

@@ -1,5 +1,5 @@
--- Document 01's samples P1 to P12, and samples of ledgers of both editions and of clocks' extensions: each list is shown
--- whole, by computation.
+-- Document 01's samples P1 to P12, and samples of ledgers of both editions and of clocks' extensions: each list is
+-- shown whole, by computation.
 -- Assumes nothing.
 use Prim.Native.Nat.{ℕ, _+_}
 use mathlib.Core.Path.{_≡_, refl}

@@ -1,5 +1,5 @@
--- Runs of fields as bytes that code goes by. A mark: w for a field of w bits, 128 + w for a signed one; but 128 + 9 is a
--- clock's extension.
+-- Runs of fields as bytes that code goes by. A mark: w for a field of w bits, 128 + w for a signed one; but 128 + 9 is
+-- a clock's extension.
 -- Assumes nothing: these are definitions.
 use Prim.Native.Nat.{ℕ, _+_, _-_}
 use mathlib.Core.Bool.{Bool, true, cond, _&&_, _||_}

@@ -1,5 +1,5 @@
-// The runs of fields that the tables are made of, each with its marks: a field's bits, and 128 more where it is signed or
-// where its number is tested, as a clock's extension is in a body.
+// The runs of fields that the tables are made of, each with its marks: a field's bits, and 128 more where it is signed,
+// or where its number is tested, as a clock's extension is in a body.
 // A run stands here once, for both directions of the ledger; the comment above it names its fields in their order.
 
 // A clock's extension: 9 bits, tested. A clock is three marks: 33, 6, EXT.
