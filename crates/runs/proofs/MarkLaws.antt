@@ -1,19 +1,19 @@
 -- What a field is, by its mark.
 -- Assumes nothing.
 use Prim.Native.Nat.{ℕ, zero, suc, _+_, _-_, _*_, _%_, _^_, _≤_, _<_}
-use mathlib.Core.Path.{_≡_, refl}
+use mathlib.Core.Path.{_≡_, refl, sym, _∙_}
 use mathlib.Core.Bool.{Bool, true, false, cond, _&&_, _||_}
 use mathlib.Core.List.{List, [], _∷_}
 use native.Mathlib.Omega.{arith}
 use lib.Dec.{T, leb, ltb, eqb, leb→le, le→leb}
 use lib.ListN.{length, getD}
 use lib.Pow.{pow-mono}
-use borrow.Author.Tests.{le-ltb, lt-ltb, ltb-true, leb-true, leb-false, eqb-true, eqb-false, ne-eqb}
+use borrow.Author.Tests.{le-leb, lt-leb, le-ltb, lt-ltb, ltb-true, leb-true, leb-false, eq-eqb, eqb-true, eqb-false, ne-eqb}
 use Rattle.format.specs.Syntax.{Sign, unsigned, signed}
 use Rattle.format.specs.Ledger.{size}
 use Rattle.format.proofs.Good.{widest}
 use Rattle.bits.proofs.Values.{one-shl}
-use Rattle.runs.specs.Lines.{ext, signOf, widthOf, sizeOf, shownOf, markOk, marksOk}
+use Rattle.runs.specs.Lines.{ext, signOf, widthOf, sizeOf, shownOf, extOf, sizeFor, markOk, marksOk}
 
 -- at least one bit and byte, at most 64 bits and 8 bytes; no more bytes than bits, and room for the bits
 pub record MarkFacts (c : ℕ) : Type 0 where
@@ -92,6 +92,10 @@ powers c h m = go (ltb c 128) refl h
           width = rw (le-ltb c 128 m);
         }
 
+-- an extension's mark is not below 128
+pub not-ext : {c : ℕ} → c < 128 → c ≡ ext → ⊥
+not-ext h e = omega arith
+
 -- the bits of an extension
 pub width-ext : (c : ℕ) → c ≡ ext → widthOf c ≡ 9
 unfolding widthOf
@@ -134,3 +138,40 @@ shown-low c v h l = go (eqb c ext) refl
     go : (t : Bool) → eqb c ext ≡ t → shownOf c v ≡ v
     go true e = shown-ext c v (eqb-true c ext e)
     go false e = rw (shown-signed c v h (eqb-false c ext e), lt-ltb v (2 ^ (c - 128 - 1)) l)
+
+-- ---- the bytes of a field that is tested
+
+-- a field that is none: its bytes
+pub plain-size : (c v : ℕ) → (c ≡ ext → ⊥) → sizeFor c v ≡ sizeOf c
+unfolding sizeFor
+plain-size c v n = rw (ne-eqb c ext n)
+
+-- an extension: 2, or none where it is above 299
+pub small-size : (c v : ℕ) → c ≡ ext → v ≤ 299 → sizeFor c v ≡ 2
+unfolding sizeFor
+small-size c v h l = rw (eq-eqb c ext h, le-leb v 299 l, size-ext c h)
+
+pub no-size : (c v : ℕ) → c ≡ ext → 299 < v → sizeFor c v ≡ 0
+unfolding sizeFor
+no-size c v h l = rw (eq-eqb c ext h, lt-leb v 299 l)
+
+-- what the bytes tell: none that the number is refused, and is an extension; some that it passes
+pub sized-no : (c v : ℕ) {z : ℕ} → T (markOk c) → z ≡ sizeFor c v → z ≡ 0 → (299 < extOf c v) × (extOf c v ≡ v)
+unfolding sizeFor
+sized-no c v {z} ok e q = go (leb (extOf c v) 299) refl (sym e ∙ q)
+  where
+    is : (t : Bool) → 299 < cond t v 0 → cond t v 0 ≡ v
+    is true h = refl
+    is false h = absurd (omega (arith, h))
+
+    go : (t : Bool) → leb (extOf c v) 299 ≡ t → cond t (sizeOf c) 0 ≡ 0 → (299 < extOf c v) × (extOf c v ≡ v)
+    go true l r = absurd (omega (arith, r, mark-facts c ok .one))
+    go false l r = let h : 299 < extOf c v = leb-false (extOf c v) 299 l in (h, is (eqb c ext) h)
+
+pub sized-yes : (c v : ℕ) {z : ℕ} → z ≡ sizeFor c v → (z ≡ 0 → ⊥) → (extOf c v ≤ 299) × (z ≡ sizeOf c)
+unfolding sizeFor
+sized-yes c v {z} e n = go (leb (extOf c v) 299) refl e
+  where
+    go : (t : Bool) → leb (extOf c v) 299 ≡ t → z ≡ cond t (sizeOf c) 0 → (extOf c v ≤ 299) × (z ≡ sizeOf c)
+    go true l r = (leb-true (extOf c v) 299 l, r)
+    go false l r = absurd (n r)

@@ -37,6 +37,10 @@ marksOk (c ∷ cs) = markOk c && marksOk cs
 abbrev pub extOf : ℕ → ℕ → ℕ
 extOf c v = cond (eqb c ext) v 0
 
+-- the bytes in a ledger of a field whose number passes its test, and 0 where it does not
+unfoldable pub sizeFor : ℕ → ℕ → ℕ
+sizeFor c v = cond (leb (extOf c v) 299) (sizeOf c) 0
+
 -- the test of an extension's number in front of what follows it
 abbrev pub tested : ℕ → ℕ → Syntax → Syntax
 tested c v s = cond (eqb c ext) (atMost 30 v 299 s) s

@@ -2,7 +2,7 @@
 ghost use mathlib.Core.Path.{_≡_};
 ghost use Prim.Native.Nat.{_%_, _^_, _<_};
 ghost use lib.Dec.{T};
-ghost use Rattle.runs.specs.Lines.{widthOf, sizeOf, shownOf, extOf, markOk};
+ghost use Rattle.runs.specs.Lines.{widthOf, sizeOf, sizeFor, shownOf, markOk};
 ghost use Rattle.runs.specs.Steps.{refusalIn, stored};
 use format::Refusal;
 use marks::EXT;
@@ -65,14 +65,20 @@ pub fn size_of(mark: u8) -> usize
     8
 }
 
-// The number that is tested where a field's number is v: an extension's; 0 of any other field.
-pub fn ext_of(mark: u8, v: u64) -> u64
-    ensures { λ r. ⌜ r ≡ extOf mark v ⌝ }
+// The same of a field whose number is v; 0 where that is refused, as an extension above 299 is.
+pub fn size_for(mark: u8, v: u64) -> usize
+    ensures { λ r. ⌜ r ≡ sizeFor mark v ⌝ }
 {
-    if mark == EXT {
-        return v;
+    if mark < 128 {
+        return size_of(mark);
     }
-    0
+    if mark == EXT {
+        if 299 < v {
+            return 0;
+        }
+        return 2;
+    }
+    4
 }
 
 // The number that a ledger has for the number v of a field: a signed one is widened to 32 bits.

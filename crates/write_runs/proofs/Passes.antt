@@ -11,7 +11,7 @@ use Rattle.format.specs.Digits.{valueAt}
 use Rattle.format.specs.Refusals.{refuse}
 use Rattle.format.specs.Syntax.{Name, Syntax}
 use Rattle.bits.proofs.Values.{valueAt-none, valueAt-lt}
-use Rattle.runs.specs.Lines.{line, run, widthOf, sizeOf, extOf, marksOk, headName}
+use Rattle.runs.specs.Lines.{line, run, widthOf, sizeOf, extOf, markOk, marksOk, headName}
 use Rattle.runs.specs.declared.Step.{Step}
 use Rattle.runs.specs.declared.Step.the-variants.{Done, Refused}
 use Rattle.runs.proofs.MarkLaws.{mark-facts, marks-at}
@@ -45,6 +45,10 @@ module _ {body marks : List ℕ} {at place : ℕ} where
   -- the places stay small, and so does a field
   pub pass-placed : {here there width i : ℕ} → Passed body at marks place here there width i → Placed body here there
   pass-placed st = st .along [] .placed
+
+  -- the next mark is one that there is
+  pub pass-mark : {here there width i : ℕ} → Passed body at marks place here there width i → i < length marks → T (marksOk marks) → T (markOk (getD marks i 0))
+  pass-mark {i = i} st more ok = marks-at marks i ok more
 
   pub pass-few : {here there width i w : ℕ} → Passed body at marks place here there width i → i < length marks → T (marksOk marks) → w ≡ widthOf (getD marks i 0) → w ≤ 64
   pass-few {i = i} st more ok ew = omega (arith, ew, mark-facts (getD marks i 0) (marks-at marks i ok more) .most)

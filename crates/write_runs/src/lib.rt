@@ -10,7 +10,7 @@ ghost use Rattle.format.specs.Refusals.{refuse};
 ghost use Rattle.format.specs.Syntax.{Name, Syntax, need};
 ghost use Rattle.format.specs.Tables.{times};
 ghost use Rattle.bits.specs.Read.{Room};
-ghost use Rattle.runs.specs.Lines.{widthOf, extOf, markOk, marksOk, line, run, runOf};
+ghost use Rattle.runs.specs.Lines.{widthOf, sizeFor, markOk, marksOk, line, run, runOf};
 ghost use Rattle.runs.specs.Steps.{lastOf, stored};
 ghost use Rattle.runs.specs.declared.Step.the-variants.{Refused};
 ghost use Rattle.write_runs.specs.Went.{Around, Placed, Ran, Moved};
@@ -22,9 +22,8 @@ use bits::put_word;
 use bits::value_at;
 use format::Refusal;
 use runs::Step;
-use runs::ext_of;
-use runs::marks::EXT;
 use runs::shown_of;
+use runs::size_for;
 use runs::size_of;
 use runs::width_of;
 
@@ -70,15 +69,16 @@ fn damaged(ext: u64) -> Step
     })
 }
 
-// The number that is tested of a field that is there, as `ext_of` has it; it is read only where there is a test.
-fn ext_at(body: &[u8], at: usize, mark: u8) -> u64
+// The bytes in a ledger of a field that is there, as `size_for` has them; its number is read only where that may matter.
+fn size_at(body: &[u8], at: usize, mark: u8) -> usize
     requires { ⌜ Room (now body) at (widthOf mark) ⌝ }
-    ensures { λ r. ⌜ r ≡ extOf mark (valueAt (now (body .entry)) at (widthOf mark)) ⌝ }
+    requires { ⌜ T (markOk mark) ⌝ }
+    ensures { λ r. ⌜ r ≡ sizeFor mark (valueAt (now (body .entry)) at (widthOf mark)) ⌝ }
 {
-    if mark == EXT {
-        return value_at(body, at, 9);
+    if mark < 128 {
+        return size_of(mark);
     }
-    0
+    size_for(mark, value_at(body, at, width_of(mark)))
 }
 
 // One field.
@@ -100,11 +100,10 @@ fn write_line(body: &[u8], at: usize, mark: u8, out: &mut [u8], place: usize) ->
         });
     }
     let v = value_at(body, at, width);
-    let ext = ext_of(mark, v);
-    if 299 < ext {
-        return damaged(ext);
+    let size = size_for(mark, v);
+    if size == 0 {
+        return damaged(v);
     }
-    let size = size_of(mark);
     put(out, place, size, shown_of(mark, v));
     Step::Done {
         at: need,
@@ -136,12 +135,12 @@ fn pass_run(body: &[u8], at: usize, marks: &[u8], place: usize) -> Step
                 have,
             });
         }
-        let ext = ext_at(body, here, mark);
-        if 299 < ext {
-            return damaged(ext);
+        let size = size_at(body, here, mark);
+        if size == 0 {
+            return damaged(value_at(body, here, width));
         }
         here += width;
-        there += size_of(mark);
+        there += size;
         i += 1;
     }
     Step::Done {
