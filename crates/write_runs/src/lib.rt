@@ -69,7 +69,7 @@ fn damaged(ext: u64) -> Step
     })
 }
 
-// The bytes in a ledger of a field that is there, as `size_for` has them; its number is read only where that may matter.
+// The bytes in a ledger of a field that is there, as `size_for` has them; its number is read only where it may matter.
 fn size_at(body: &[u8], at: usize, mark: u8) -> usize
     requires { ⌜ Room (now body) at (widthOf mark) ⌝ }
     requires { ⌜ T (markOk mark) ⌝ }
