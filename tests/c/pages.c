@@ -1,7 +1,7 @@
 /* Buffers against unreadable pages: pages BODIES LEDGERS PLAINS IDS CASES_2 LEDGERS_2 STORED, files with one case a
  * line. BODIES and LEDGERS are the replay list with its answers, the Rust's but for those refused by 30 (S-23), which
  * are tests/replay/read.py's; PLAINS is what tests/replay/decode.py makes of the ledgers, IDS what tests/replay/ids.py
- * lists of the bodies; every tenth case, the first 110 and all refused by 30 are tried. CASES_2, LEDGERS_2 and STORED
+ * lists of the bodies; every tenth case, the first 130 and all refused by 30 are tried. CASES_2, LEDGERS_2 and STORED
  * are tests/replay/edition_2.txt, damaged_2.txt and stored.txt, tried whole. None comes from the code under test. A
  * byte touched outside a buffer ends the program.
  */
@@ -384,7 +384,7 @@ int main(int argc, char **argv)
     while (fgets(text[0], sizeof text[0], file[0])) {
         for (int i = 1; i < 4; i++)
             check(fgets(text[i], sizeof text[i], file[i]) != NULL, "a line is missing");
-        if (++line <= 110 || line % 10 == 0 || strncmp(text[1], "R 30 ", 5) == 0)
+        if (++line <= 130 || line % 10 == 0 || strncmp(text[1], "R 30 ", 5) == 0)
             stored(text[0], text[1], text[2], text[3]);
     }
     printf("%lu checks\n", checks);

@@ -1,4 +1,4 @@
-"""Document 01's samples, some edges of its reading, and of request S-23: (name, table id, body, output line).
+"""Document 01's samples, edges of its reading, of S-23 and of the places of S-11: (name, table id, body, output line).
 
 The lines were worked out by hand from documents 01 and 02, not taken from the oracle.
 """
@@ -213,6 +213,82 @@ EXTENSIONS = [
     ("id 9, a plan with 511", 9, timed(13, 3, 511, 511), listed(9, timed(13, 3, 511, 511).hex())),
 ]
 SAMPLES += EXTENSIONS
+
+BYTES = bytes(range(256)) * 16
+
+
+def filled(size):
+    """A plan of mode 0 with filler up to this size."""
+    return timed(size - 6, 0, 1, 2, 3, 4, rest=BYTES[:size - 31])
+
+
+def slots(length, size):
+    """A plan of mode 1 that names so many slots, and 4,073 bytes for them: 4,096 in all."""
+    return timed(length, 1, 5, 6, rest=size.to_bytes(2, "big") + b"\x7f\x47" + BYTES[:4073])
+
+
+def observed(count, ledger=False):
+    """So many ephemeris entries without acceleration: 31 bytes each, or 32 in the ledger, where r7 has a byte."""
+    reserved = b"\0" if ledger else b""
+    return b"".join(bytes([i]) + reserved + i.to_bytes(2, "big") + BYTES[i:i + 28] for i in range(count))
+
+
+def circling(count, ledger=False):
+    """So many satellites with elements: 47 bytes each, or 49 in the ledger."""
+    head = "000000{:02x} 00 01" if ledger else "0000{:02x} 01"
+    return b"".join(bytes.fromhex(head.format(i)) + BYTES[i:i + 43] for i in range(count))
+
+
+FILLED = timed_listed(0, 1, 2, 3, 4)
+FOUR = bytes(4) + b"\0\x04" + BYTES[:16]
+TURNS = [i % 300 for i in range(407)]
+
+# S-11: places and sizes at the limits of what 16 bits hold. Most of these bodies have 4,096 bytes, 32,768 bits: fields
+# end with the last of them or just miss it, a plan's end is as far as 65,528, and lists ask for more than 65,535.
+PLACES = [
+    # Plans: the last one in the last bytes, or one over the whole body.
+    ("raw plan in the last 19 bytes, end at bit 65,424", 3, filled(4077) + timed(4095, 3, 299, 298),
+     listed(3, "0002" + FILLED + timed_listed(3, 299, 298, rest="0000"))),
+    ("raw plan in the last 21 bytes, end at bit 32,768", 3, filled(4075) + timed(15, 3, 299, 298, rest=b"\xaa\xbb"),
+     listed(3, "0002" + FILLED + timed_listed(3, 299, 298, rest="0002 aabb"))),
+    ("raw plan in the last 21 bytes, end at bit 32,776", 3, filled(4075) + timed(16, 3, 299, 298, rest=b"\xaa\xbb"),
+     listed(3, "0002" + FILLED + timed_listed(3, 299, 298, rest="0000"))),
+    ("raw plan in the last 19 bytes, too short", 3, filled(4077) + timed(12, 3, 299, 298), "R 14 8 0"),
+    ("plan length in the last bits, end at bit 65,528", 3, filled(4090) + timed(4095, 3)[:6], "R 1 32774 32768"),
+    ("application clock in the last bits", 3, filled(4083) + timed(4095, 3, 299), "R 1 32801 32768"),
+    ("one plan of mode 0, end at bit 32,808", 3, timed(4095, 0, 1, 2, 3, 4, rest=BYTES[:4065]),
+     listed(3, "0001" + FILLED)),
+    ("one raw plan, end at bit 32,768", 3, timed(4090, 3, 5, 6, rest=BYTES[:4077]),
+     listed(3, "0001" + timed_listed(3, 5, 6, rest=f"{4077:04x}" + BYTES[:4077].hex()))),
+    ("32,584 slots, the last in the last bit", 3, slots(4090, 32584),
+     listed(3, "0001" + timed_listed(1, 5, 6, rest="00 7f48 00 7f47" + BYTES[:4073].hex()))),
+    ("32,585 slots, room for one less", 3, slots(4090, 32585), "R 12 32585 32584"),
+    ("32,584 slots, plan length 0", 3, slots(0, 32584), "R 14 32720 0"),
+    # Fragments: lists that are too long for the body, or for any, and lists that just fit.
+    ("1,023 new systems, 150 bytes there", 1, bytes(6) + b"\x03\xff" + BYTES[:150], "R 7 81840 1200"),
+    ("820 new systems, 64 bits above 65,536", 1, bytes(6) + b"\x03\x34" + BYTES[:4088], "R 7 65600 32704"),
+    ("1,023 obsolescent systems", 1, bytes(8) + b"\x03\xff" + BYTES[:4086], "R 8 81840 32688"),
+    ("1,023 ids, room for 1,022", 1, bytes(4) + b"\x03\xff" + BYTES[:4090], "R 6 32736 32720"),
+    ("1,022 ids, count of new systems in the last bits", 1, bytes(4) + b"\x03\xfe" + BYTES[:4088] + bytes(2),
+     "R 1 32774 32768"),
+    ("407 obsolescent systems, the last clock in the last bits", 1, FOUR + systems() + systems(*TURNS),
+     listed(1, "0001 00000000 00 00 00 0004" + BYTES[:16].hex() + systems_listed() + systems_listed(*TURNS))),
+    ("408 obsolescent systems, room for 407", 1, FOUR + systems() + b"\x01\x98" + BYTES[:4070], "R 8 32640 32560"),
+    # Satellites: as many as the body holds, or up to the one that is cut.
+    ("65,535 ephemeris entries, five there and ten bytes", 4, bytes(12) + b"\xff\xff" + BYTES[:165], "R 19 248 80"),
+    ("65,535 with acceleration, the 95th cut", 4, bytes(11) + b"\x02\xff\xff" + BYTES[:4082], "R 19 344 320"),
+    ("131 ephemeris entries, a satellite's count in the last bits", 4,
+     bytes(8) + b"\0\0\x01\x10" + bytes(15) + b"\0\x83" + observed(131) + b"\0\0\x02" + bytes(3),
+     listed(4, HEADER + "0002 00000001 00 01 00 00 00 00" + "00" * 20 + "0083" + observed(131, True).hex()
+            + "00000002 00 00 00 00 00 00 0000")),
+    ("87 satellites with elements, one without in the last bits", 0, circling(87) + P3,
+     listed(0, "0058" + circling(87, True).hex() + P3_LINE[12:])),
+    ("88 satellites with elements, the last cut", 0, circling(87) + b"\0\0\x07\x01" + BYTES[:3], "R 4 344 24"),
+    ("system 0 in the last bit", 0, P3 * 551 + circling(5) + P3[:4], "R 3 24 0"),
+    # A byte more: nothing of the body counts.
+    ("raw plan at the end of 4,097 bytes", 3, filled(4078) + timed(4095, 3, 299, 298), "R 21 4097 4096"),
+]
+SAMPLES += PLACES
 
 
 def case_line(sample):

@@ -45,7 +45,7 @@ pub struct TimeAssociationBody {
 pub enum TimeAssociationAnswer {
     Entry {
         association: TimeAssociationBody,
-        next: usize,
+        next: u16,
     },
     Refused(Refusal),
 }
@@ -150,7 +150,7 @@ fn association_of(s: &[u8]) -> TimeAssociationAnswer
 // The association of a body: refused with number 2 where it is empty, with 9 where it is shorter than 152 bits, and by
 // its clock's extension.
 pub fn read_association(s: &[u8]) -> TimeAssociationAnswer
-    requires { ⌜ length (now s) ≤ 65536 ⌝ }
+    requires { ⌜ length (now s) ≤ 4096 ⌝ }
     ensures { λ r. ⌜ r ≡ associationAt (now (s .entry)) ⌝ }
 {
     let have = 8 * s.len();

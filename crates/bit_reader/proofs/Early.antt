@@ -116,7 +116,7 @@ module _ {M : Type 1} {𝓤 : URA M} {H : Heap 𝓤} {A : Atoms 𝓤} {K : Type 
         k (subst (λ (z : Val). Is F.the-row f (z ∷ [])) (ap only (LL.tells F.the-type F′.the-laws f _ is)) is))))
 
     -- a number of w bits is read into x by the reader h, which is local b at l; a: the local of the reference to it
-    reads-into : {τ : Ty} {b a l la : ℕ} → K → FmC 𝓤 H (W .laws) C → Triple 𝓤 (C #f) (Meant 𝓤 H A (method S.the-row) (clauses S.the-row ReadNeed ReadSays 𝓤))
+    reads-into : {τ : Ty} {b a l la : ℕ} → K → FmC 𝓤 H (W .laws) C → Triple 𝓤 (C #f) (Meant 𝓤 H A (method w64 S.the-row) (clauses w64 S.the-row ReadNeed ReadSays 𝓤))
         → (κ : Lft) (q : Share) (h : BitReader) (w : ℕ) → ReadNeed h w → Holds (ltb w (2 ^ 64)) → (na nx : ℕ)
         → spotOf 𝓤 H E b ≡ (T′.mir erased, l, zero) → Holds (hasTy τ (vptr l 0)) × WT (vptr l 0) → Unset H A E Γ τ a la na
         → Unset H A E (put 𝓤 H A na (‵ (fat fullShare τ la 0 (vptr l 0))) Γ) S′.mir x lx nx
@@ -127,7 +127,7 @@ module _ {M : Type 1} {𝓤 : URA M} {H : Heap 𝓤} {A : Atoms 𝓤} {K : Type 
         (runs C Λ E (seq (assign (place a []) (addrOf (place b []))) (seq (call #f (copy (place a []) ∷ int w64 w ∷ []) (place x [])) rest)) end)
     reads-into {τ} {l = l} {la = la} t fm known κ q h w need lt na nx for-b typed-a for-a for-x k =
         assigns t (addr t (found t for-b (stop t))) (found t (for-a .spot) (stop t)) (init t (suc (suc na)) (for-a .room) typed-a) $
-        calls-method S.the-row ReadNeed ReadSays κ q l h w t fm known need (lit< lt)
+        calls-method w64 S.the-row ReadNeed ReadSays κ q l h w t fm known need (lit< lt)
         (λ α δ. and-then t (load t (found t (for-a .spot) (stop t)) (look t (suc (suc na)) (for-a .kept _))) (and-then t (lit t lt) (no-more t))) (λ r h′ d u.
         peeks t S.the-row (Is S.the-row) (shows 𝓤 H A S.the-row) r (u ∷ []) (λ is. rewrite t 2 (λ (z : BitReader). ‵ (mem (B κ) .lies z l 0)) (d .1) refl $
         subst (λ (z : Val). Seq K W (‵ (S.the-row .own r (z ∷ [])) ∷ ‵ (flft κ q) ∷ ‵ (mem (B κ) .lies (moved h (placeAfter r (h .«bit_pos»))) l 0) ∷ put 𝓤 H A na (‵ (fat fullShare τ la 0 (vptr l 0))) Γ)
@@ -164,7 +164,7 @@ module _ {M : Type 1} {𝓤 : URA M} {H : Heap 𝓤} {A : Atoms 𝓤} {K : Type 
   -- answer, of the number and of the refusal; na, nx, nv, ny: their entries in the context
   module _ {Γ : List (Item 𝓤)} {E : Env 𝓤 H} {C : Calls 𝓤 H} {Λ : Loops 𝓤 H} {end : Post 𝓤 H} {els rest : Body} {#read #refusal : Name} {τ : Ty} {b a x v y l la lx lv ly : ℕ} where
     pub reads-or-refuses : K → FmC 𝓤 H (W .laws) C → (at-mem : Memory → SProp 𝓤) (run : Routine → Fun 𝓤)
-        → Triple 𝓤 (C #read) (Meant 𝓤 H A (method S.the-row) (clauses S.the-row ReadNeed ReadSays 𝓤)) → Triple 𝓤 (C #refusal) (Meant 𝓤 H A refusal-of.ended (refusal-of.clauses 𝓤 H A at-mem run))
+        → Triple 𝓤 (C #read) (Meant 𝓤 H A (method w64 S.the-row) (clauses w64 S.the-row ReadNeed ReadSays 𝓤)) → Triple 𝓤 (C #refusal) (Meant 𝓤 H A refusal-of.ended (refusal-of.clauses 𝓤 H A at-mem run))
         → (κ : Lft) (q : Share) (h : BitReader) (w : ℕ) → ReadNeed h w → Holds (ltb w (2 ^ 64)) → (na nx nv ny : ℕ)
         → spotOf 𝓤 H E b ≡ (T′.mir erased, l, zero) → Holds (hasTy τ (vptr l 0)) × WT (vptr l 0) → Unset H A E Γ τ a la na
         → let Γ₁ : List (Item 𝓤) = put 𝓤 H A na (‵ (fat fullShare τ la 0 (vptr l 0))) Γ in Unset H A E Γ₁ S′.mir x lx nx

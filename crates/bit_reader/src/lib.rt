@@ -9,11 +9,11 @@ use bits::SignedBits;
 
 pub struct BitReader<'a> {
     pub data: &'a [u8],
-    pub bit_pos: usize,
+    pub bit_pos: u16,
 }
 
 // The place behind bits that were read; the old place where they were refused.
-fn place_after(r: Bits, at: usize) -> usize
+fn place_after(r: Bits, at: u16) -> u16
     ensures { λ n. ⌜ n ≡ placeAfter r at ⌝ }
 {
     match r {
@@ -23,7 +23,7 @@ fn place_after(r: Bits, at: usize) -> usize
 }
 
 // The same for bits that are a signed number.
-fn place_after_signed(r: SignedBits, at: usize) -> usize
+fn place_after_signed(r: SignedBits, at: u16) -> u16
     ensures { λ n. ⌜ n ≡ placeAfterSigned r at ⌝ }
 {
     match r {
@@ -42,14 +42,14 @@ impl<'a> BitReader<'a> {
 
     // How many bits there are from the reader's place to the end.
     pub fn remaining_bits(&self) -> usize
-        requires { ⌜ length (now (now self .«data»)) ≤ 65536 ⌝ }
+        requires { ⌜ length (now (now self .«data»)) ≤ 4096 ⌝ }
         ensures { λ r. ⌜ r ≡ 8 * length (now (now (self .entry) .«data»)) - now (self .entry) .«bit_pos» ⌝ }
     {
         bits::remaining_bits(self.data, self.bit_pos)
     }
 
     // Goes on over bits that are not looked at.
-    pub fn skip(&mut self, bits: usize)
+    pub fn skip(&mut self, bits: u16)
         requires { ⌜ Room (now (now self .«data»)) (now self .«bit_pos») bits ⌝ }
         ensures { λ _. ⌜ now (self .exit) ≡ moved (now (self .entry)) (now (self .entry) .«bit_pos» + bits) ⌝ }
     {

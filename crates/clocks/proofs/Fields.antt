@@ -1,6 +1,6 @@
 -- Fields that are read one behind the other: each place is a place of the body, and three of them are a clock's fields.
 -- Assumes nothing.
-use Prim.Native.Nat.{ℕ, _^_, _<_}
+use Prim.Native.Nat.{ℕ}
 use mathlib.Core.Path.{_≡_, refl}
 use mathlib.Core.List.{List}
 use native.Mathlib.Omega.{arith}
@@ -18,10 +18,6 @@ use Rattle.clocks.specs.declared.ClockAnswer.the-variants as ca
 -- the bits in front of a place are there
 pub before : (s : List ℕ) (at : ℕ) → Place s at → Room s 0 at
 before s at p = record { short = p .short; fits = omega arith }
-
--- a place is a usize
-pub small : (s : List ℕ) (p : ℕ) → Place s p → p < 2 ^ 64
-small s p l = omega (arith, l .short, l .within)
 
 -- the place behind a field that was read is a place
 pub after : {v n : ℕ} {r : Bits} (s : List ℕ) (p w : ℕ) → Place s p → r ≡ readAt s p w → r ≡ Value v n → Place s n

@@ -24,7 +24,7 @@ pub struct Stamp {
 
 // What reading a clock at a place finds: the clock and the place behind it, or why it is refused.
 pub enum ClockAnswer {
-    Read { clock: Clock, next: usize },
+    Read { clock: Clock, next: u16 },
     Refused(Refusal),
 }
 
@@ -43,7 +43,7 @@ pub fn clock_refusal(r: ClockAnswer) -> Refusal
 }
 
 // Reads a clock's fields by a reader of its own; refused with number 1 at the first that goes on behind the end.
-fn take_clock(s: &[u8], at: usize) -> ClockAnswer
+fn take_clock(s: &[u8], at: u16) -> ClockAnswer
     requires { ⌜ Place (now s) at ⌝ }
     ensures { λ r. ⌜ r ≡ fieldsAt (now (s .entry)) at ⌝ }
 {
@@ -73,7 +73,7 @@ fn take_clock(s: &[u8], at: usize) -> ClockAnswer
 }
 
 // A clock whose fields were read: an extension above 299 is damage, and is refused with number 30.
-fn checked(clock: Clock, next: usize) -> ClockAnswer
+fn checked(clock: Clock, next: u16) -> ClockAnswer
     ensures { λ r. ⌜ r ≡ tested clock next ⌝ }
 {
     if clock.ext > 299 {
@@ -87,7 +87,7 @@ fn checked(clock: Clock, next: usize) -> ClockAnswer
 }
 
 // Reads a clock: refused where it is cut short, or by its extension.
-pub fn read_clock(s: &[u8], at: usize) -> ClockAnswer
+pub fn read_clock(s: &[u8], at: u16) -> ClockAnswer
     requires { ⌜ Place (now s) at ⌝ }
     ensures { λ r. ⌜ r ≡ clockAt (now (s .entry)) at ⌝ }
 {
@@ -99,7 +99,7 @@ pub fn read_clock(s: &[u8], at: usize) -> ClockAnswer
 }
 
 // The fields of a clock at a place where all of it is there.
-fn clock_at(s: &[u8], at: usize) -> Clock
+fn clock_at(s: &[u8], at: u16) -> Clock
     requires { ⌜ Room (now s) at 48 ⌝ }
     ensures { λ r. ⌜ r ≡ clockOf (now (s .entry)) at ⌝ }
 {
@@ -111,7 +111,7 @@ fn clock_at(s: &[u8], at: usize) -> Clock
 }
 
 // Reads a clock of a group whose bits were found to be there; refused by its extension alone.
-pub fn clock_within(s: &[u8], at: usize) -> ClockAnswer
+pub fn clock_within(s: &[u8], at: u16) -> ClockAnswer
     requires { ⌜ Room (now s) at 48 ⌝ }
     ensures { λ r. ⌜ r ≡ clockAt (now (s .entry)) at ⌝ }
 {
@@ -120,7 +120,7 @@ pub fn clock_within(s: &[u8], at: usize) -> ClockAnswer
 }
 
 // The stamp at a place where all of it is there.
-pub fn stamp_at(s: &[u8], at: usize) -> Stamp
+pub fn stamp_at(s: &[u8], at: u16) -> Stamp
     requires { ⌜ Room (now s) at 56 ⌝ }
     ensures { λ r. ⌜ r ≡ stampOf (now (s .entry)) at ⌝ }
 {

@@ -34,16 +34,12 @@ use position_v3::satellite_v3_refusal;
 // How many entries there are, the bit place at which the one at an index starts (0 where there is none), and the one
 // where the reading ended: behind the last entry of a list, and else at the body's end.
 pub enum Walked {
-    Entries {
-        count: usize,
-        place: usize,
-        end: usize,
-    },
+    Entries { count: usize, place: u16, end: u16 },
     Refused(Refusal),
 }
 
 // Where the entry at a place ends: one function for each table that is a list.
-fn satellite_end(s: &[u8], at: usize) -> EntryEnd
+fn satellite_end(s: &[u8], at: u16) -> EntryEnd
     requires { ⌜ Place (now s) at ⌝ }
     ensures { λ r. ⌜ r ≡ endOf (now (s .entry)) position at ⌝ }
 {
@@ -54,7 +50,7 @@ fn satellite_end(s: &[u8], at: usize) -> EntryEnd
     EntryEnd::At(next)
 }
 
-fn fragment_end(s: &[u8], at: usize) -> EntryEnd
+fn fragment_end(s: &[u8], at: u16) -> EntryEnd
     requires { ⌜ Place (now s) at ⌝ }
     ensures { λ r. ⌜ r ≡ endOf (now (s .entry)) fragment at ⌝ }
 {
@@ -65,7 +61,7 @@ fn fragment_end(s: &[u8], at: usize) -> EntryEnd
     EntryEnd::At(next)
 }
 
-fn plan_end(s: &[u8], at: usize) -> EntryEnd
+fn plan_end(s: &[u8], at: u16) -> EntryEnd
     requires { ⌜ Place (now s) at × (at % 8 ≡ 0) ⌝ }
     ensures { λ r. ⌜ r ≡ endOf (now (s .entry)) beamhopping at ⌝ }
 {
@@ -76,7 +72,7 @@ fn plan_end(s: &[u8], at: usize) -> EntryEnd
     EntryEnd::At(next)
 }
 
-fn satellite_v3_end(s: &[u8], at: usize) -> EntryEnd
+fn satellite_v3_end(s: &[u8], at: u16) -> EntryEnd
     requires { ⌜ Place (now s) at × (at % 8 ≡ 0) ⌝ }
     ensures { λ r. ⌜ r ≡ endOf (now (s .entry)) position3 at ⌝ }
 {
@@ -89,7 +85,7 @@ fn satellite_v3_end(s: &[u8], at: usize) -> EntryEnd
 }
 
 // Where the entry of a list at a place ends.
-pub fn entry_end(table_id: u8, s: &[u8], at: usize) -> EntryEnd
+pub fn entry_end(table_id: u8, s: &[u8], at: u16) -> EntryEnd
     requires { ⌜ Place (now s) at × (at % 8 ≡ 0) ⌝ }
     requires { ⌜ IsList (layout «table_id») ⌝ }
     ensures { λ r. ⌜ r ≡ endOf (now (s .entry)) (entrySyntax «table_id») at ⌝ }
@@ -151,7 +147,7 @@ pub fn end_refusal(r: EntryEnd) -> Refusal
 }
 
 // The entries of a list from a place on.
-fn seek_entries(table_id: u8, s: &[u8], start: usize, index: usize) -> Walked
+fn seek_entries(table_id: u8, s: &[u8], start: u16, index: usize) -> Walked
     requires { ⌜ (length (now s) ≤ 4096) × (start ≤ 8 * length (now s)) × (start % 8 ≡ 0) ⌝ }
     requires { ⌜ IsList (layout «table_id») ⌝ }
     ensures { λ r. ⌜ r ≡ seek (now (s .entry)) index walked.Entries walked.Refused (starts (8 * length (now (s .entry))) (leastBits «table_id») (entrySyntax «table_id») (8 * length (now (s .entry)) - start) (drop start (bitsOf (now (s .entry))))) ⌝ }
@@ -161,8 +157,8 @@ fn seek_entries(table_id: u8, s: &[u8], start: usize, index: usize) -> Walked
     let least = least_bits(table_id);
     let mut at = start;
     let mut count: usize = 0;
-    let mut place: usize = 0;
-    while least <= all - at {
+    let mut place: u16 = 0;
+    while least <= all - at as usize {
         let end = entry_end(table_id, s, at);
         let EntryEnd::At(next) = end else {
             return Walked::Refused(end_refusal(end));
@@ -187,7 +183,7 @@ fn sole_entry(table_id: u8, s: &[u8]) -> Walked
     ensures { λ r. ⌜ ((i : ℕ) → r ≡ seek (now (s .entry)) i walked.Entries walked.Refused (bodyStarts «table_id» (now (s .entry)))) ⌝ }
     ensures { λ r. ⌜ Sure (now (s .entry)) 0 r ⌝ }
 {
-    let end = 8 * s.len();
+    let end = (8 * s.len()) as u16;
     if table_id != 2 {
         return Walked::Entries {
             count: 1,

@@ -53,7 +53,7 @@ fn join(ids: &mut [u32], count: usize, id: u32) -> usize
 }
 
 // The id of the entry at a place: its first field, 24 bits for satellites and 32 for the others.
-fn entry_id(table_id: u8, s: &[u8], at: usize) -> u32
+fn entry_id(table_id: u8, s: &[u8], at: u16) -> u32
     requires { ⌜ Room (now s) at 32 ⌝ }
     requires { ⌜ IsList (layout «table_id») ⌝ }
     ensures { λ r. ⌜ r ≡ valueAt (now (s .entry)) at (idBits «table_id») ⌝ }
@@ -68,7 +68,7 @@ fn entry_id(table_id: u8, s: &[u8], at: usize) -> u32
 }
 
 // The different ids of a list's entries from a place on, in the order in which they are met.
-fn list_ids(table_id: u8, s: &[u8], start: usize, ids: &mut [u32]) -> Answer
+fn list_ids(table_id: u8, s: &[u8], start: u16, ids: &mut [u32]) -> Answer
     requires { ⌜ (length (now s) ≤ 4096) × (start ≤ 8 * length (now s)) × (start % 8 ≡ 0) ⌝ }
     requires { ⌜ IsList (layout «table_id») ⌝ }
     requires { ⌜ 1024 ≤ length (now ids) ⌝ }
@@ -78,7 +78,7 @@ fn list_ids(table_id: u8, s: &[u8], start: usize, ids: &mut [u32]) -> Answer
     let least = least_bits(table_id);
     let mut at = start;
     let mut count: usize = 0;
-    while least <= all - at {
+    while least <= all - at as usize {
         let end = entry_end(table_id, s, at);
         let EntryEnd::At(next) = end else {
             return Answer::Refused(end_refusal(end));

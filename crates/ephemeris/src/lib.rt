@@ -60,7 +60,7 @@ pub enum EphemerisDataAnswer {
 pub enum CovarianceAnswer {
     Read {
         covariance: MaybeCovariance,
-        next: usize,
+        next: u16,
     },
     Refused(Refusal),
 }
@@ -90,7 +90,7 @@ fn entry_bits(accel: u8) -> usize
 }
 
 // A count, and behind it so many ephemeris entries. Each is tested by itself: the first that is cut short has what is left behind the whole ones.
-pub fn read_ephemerides(s: &[u8], at: usize, accel: u8) -> PartAnswer
+pub fn read_ephemerides(s: &[u8], at: u16, accel: u8) -> PartAnswer
     requires { ⌜ Place (now s) at ⌝ }
     ensures { λ r. ⌜ r ≡ ephemeridesAt (now (s .entry)) accel at ⌝ }
 {
@@ -101,7 +101,8 @@ pub fn read_ephemerides(s: &[u8], at: usize, accel: u8) -> PartAnswer
     let count = value as usize;
     let size = entry_bits(accel);
     let need = count * size;
-    let have = 8 * s.len() - next;
+    let from = next as usize;
+    let have = 8 * s.len() - from;
     if have < need {
         return PartAnswer::Refused(Refusal {
             number: 19,
@@ -110,18 +111,18 @@ pub fn read_ephemerides(s: &[u8], at: usize, accel: u8) -> PartAnswer
         });
     }
     let part = Part {
-        start: next / 8,
+        start: from / 8,
         length: need / 8,
         count,
     };
     PartAnswer::Read {
         part,
-        next: next + need,
+        next: (from + need) as u16,
     }
 }
 
 // The covariance at a place where its stamp is all there.
-fn covariance_at(s: &[u8], at: usize) -> CovarianceData
+fn covariance_at(s: &[u8], at: u16) -> CovarianceData
     requires { ⌜ Room (now s) at 56 ⌝ }
     ensures { λ r. ⌜ r ≡ covarianceOf (now (s .entry)) at ⌝ }
 {
@@ -135,7 +136,7 @@ fn covariance_at(s: &[u8], at: usize) -> CovarianceData
 }
 
 // The covariance, there only if its flag is 1. Its elements end at the place behind it.
-pub fn read_covariance(s: &[u8], at: usize, flag: u8) -> CovarianceAnswer
+pub fn read_covariance(s: &[u8], at: u16, flag: u8) -> CovarianceAnswer
     requires { ⌜ Place (now s) at ⌝ }
     ensures { λ r. ⌜ r ≡ covarianceAt (now (s .entry)) flag at ⌝ }
 {
@@ -145,7 +146,7 @@ pub fn read_covariance(s: &[u8], at: usize, flag: u8) -> CovarianceAnswer
             next: at,
         };
     }
-    let have = 8 * s.len() - at;
+    let have = 8 * s.len() - at as usize;
     if have < 728 {
         return CovarianceAnswer::Refused(Refusal {
             number: 20,
@@ -160,14 +161,14 @@ pub fn read_covariance(s: &[u8], at: usize, flag: u8) -> CovarianceAnswer
 }
 
 // The 21 values of 32 bits from a place at which all of them are there.
-pub fn covariance_elements_at(s: &[u8], at: usize) -> [u32; 21]
+pub fn covariance_elements_at(s: &[u8], at: u16) -> [u32; 21]
     requires { ⌜ Room (now s) at 672 ⌝ }
     ensures { λ r. ⌜ r ≡ wordsAt (now (s .entry)) at 21 ⌝ }
 {
     let mut v = [0u32; 21];
     let mut i: usize = 0;
     while i < 21 {
-        let w = value_at(s, at + 32 * i, 32);
+        let w = value_at(s, (at as usize + 32 * i) as u16, 32);
         v[i] = w as u32;
         i += 1;
     }
@@ -175,7 +176,7 @@ pub fn covariance_elements_at(s: &[u8], at: usize) -> [u32; 21]
 }
 
 // An entry's acceleration, if it has one; at: the place of the entry.
-fn acceleration_at(s: &[u8], at: usize, accel: bool) -> MaybeEphemerisAccel
+fn acceleration_at(s: &[u8], at: u16, accel: bool) -> MaybeEphemerisAccel
     requires { ⌜ Ahead (now s) accel at ⌝ }
     ensures { λ r. ⌜ r ≡ accelOf (now (s .entry)) at accel ⌝ }
 {
@@ -190,7 +191,7 @@ fn acceleration_at(s: &[u8], at: usize, accel: bool) -> MaybeEphemerisAccel
 }
 
 // The ephemeris entry at a place where all of it is there.
-fn entry_at(s: &[u8], at: usize, accel: bool) -> EphemerisData
+fn entry_at(s: &[u8], at: u16, accel: bool) -> EphemerisData
     requires { ⌜ Room (now s) at (entryWidth accel) ⌝ }
     ensures { λ r. ⌜ r ≡ entryOf (now (s .entry)) at accel ⌝ }
 {
@@ -242,5 +243,5 @@ pub fn ephemeris_data_at(body: &[u8], part: Part, accel: bool, index: usize) -> 
     if length < from + size {
         return EphemerisDataAnswer::None;
     }
-    EphemerisDataAnswer::Data(entry_at(body, 8 * from, accel))
+    EphemerisDataAnswer::Data(entry_at(body, (8 * from) as u16, accel))
 }

@@ -44,7 +44,7 @@ pub struct CellFragment {
 
 // What reading a fragment finds: the fragment and the place behind it, or why it is refused.
 pub enum CellFragmentAnswer {
-    Entry { fragment: CellFragment, next: usize },
+    Entry { fragment: CellFragment, next: u16 },
     Refused(Refusal),
 }
 
@@ -58,7 +58,7 @@ struct Lists {
 }
 
 enum ListsAnswer {
-    Read { lists: Lists, next: usize },
+    Read { lists: Lists, next: u16 },
     Refused(Refusal),
 }
 
@@ -94,7 +94,7 @@ fn lists_refusal(r: ListsAnswer) -> Refusal
 }
 
 // Reads the three lists; each is tested once, as a whole, behind its count, and then each system by its clock.
-fn read_lists(s: &[u8], at: usize) -> ListsAnswer
+fn read_lists(s: &[u8], at: u16) -> ListsAnswer
     requires { ⌜ Place (now s) at ⌝ }
     ensures { λ r. ⌜ r ≡ listsAt (now (s .entry)) at ⌝ }
 {
@@ -129,7 +129,7 @@ fn read_lists(s: &[u8], at: usize) -> ListsAnswer
 }
 
 // The centre at a place where all of it is there.
-fn centre_at(s: &[u8], at: usize) -> CellCentre
+fn centre_at(s: &[u8], at: u16) -> CellCentre
     requires { ⌜ Room (now s) at 76 ⌝ }
     ensures { λ r. ⌜ r ≡ centreOf (now (s .entry)) at ⌝ }
 {
@@ -148,7 +148,7 @@ fn centre_at(s: &[u8], at: usize) -> CellCentre
 // A fragment from what stands before its lists, with the lists at a place.
 fn around_lists(
     s: &[u8],
-    at: usize,
+    at: u16,
     id: u32,
     first: bool,
     last: bool,
@@ -181,11 +181,11 @@ fn around_lists(
 }
 
 // The rest of a fragment with a centre, behind its id and flags: the centre is tested once, as a whole.
-fn with_centre(s: &[u8], at: usize, id: u32, last: bool) -> CellFragmentAnswer
+fn with_centre(s: &[u8], at: u16, id: u32, last: bool) -> CellFragmentAnswer
     requires { ⌜ Place (now s) at ⌝ }
     ensures { λ r. ⌜ r ≡ withAt (now (s .entry)) id last at ⌝ }
 {
-    let have = 8 * s.len() - at;
+    let have = 8 * s.len() - at as usize;
     if have < 76 {
         return CellFragmentAnswer::Refused(Refusal {
             number: 5,
@@ -198,7 +198,7 @@ fn with_centre(s: &[u8], at: usize, id: u32, last: bool) -> CellFragmentAnswer
 }
 
 // And of one without a centre.
-fn without_centre(s: &[u8], at: usize, id: u32, last: bool) -> CellFragmentAnswer
+fn without_centre(s: &[u8], at: u16, id: u32, last: bool) -> CellFragmentAnswer
     requires { ⌜ Place (now s) at ⌝ }
     ensures { λ r. ⌜ r ≡ withoutAt (now (s .entry)) id last at ⌝ }
 {
@@ -211,7 +211,7 @@ fn without_centre(s: &[u8], at: usize, id: u32, last: bool) -> CellFragmentAnswe
 }
 
 // Reads the fragment at a place.
-pub fn read_fragment(s: &[u8], at: usize) -> CellFragmentAnswer
+pub fn read_fragment(s: &[u8], at: u16) -> CellFragmentAnswer
     requires { ⌜ Place (now s) at ⌝ }
     ensures { λ r. ⌜ r ≡ fragmentAt (now (s .entry)) at ⌝ }
 {

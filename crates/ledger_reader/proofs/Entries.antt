@@ -21,8 +21,8 @@ use Rattle.format.specs.declared.Refusal.{Refusal}
 use Rattle.format.proofs.DigitLaws.{length-bits}
 use Rattle.format.proofs.Good.{Fine}
 use Rattle.bits.proofs.Splices.{splice-splice, splice-nil}
-use Rattle.runs.specs.declared.Step.{Step}
-use Rattle.runs.specs.declared.Step.the-variants.{Done, Refused}
+use Rattle.read_runs.specs.declared.Step.{Step}
+use Rattle.read_runs.specs.declared.Step.the-variants.{Done, Refused}
 use Rattle.read_runs.specs.Came.{LedgerPlaced, Way, wayOf, Halted}
 use Rattle.read_runs.proofs.Lent.{Starts, lent-bits}
 use Rattle.read_runs.proofs.Moved.{read-whole}

@@ -21,9 +21,9 @@ use Rattle.format.proofs.Good.{Fine}
 use Rattle.format.proofs.TableLaws.{fine-layout}
 use Rattle.bits.proofs.Splices.{splice-splice, splice-nil}
 use Rattle.bits.proofs.Groups.{bits-splice}
-use Rattle.runs.specs.Steps.{stored}
-use Rattle.runs.specs.declared.Step.{Step}
-use Rattle.runs.specs.declared.Step.the-variants.{Done, Refused}
+use Rattle.runs.specs.Stored.{stored}
+use Rattle.read_runs.specs.declared.Step.{Step}
+use Rattle.read_runs.specs.declared.Step.the-variants.{Done, Refused}
 use Rattle.runs.proofs.Stores.{stored-fits}
 use Rattle.read_runs.specs.Came.{Way, wayOf, Halted}
 use Rattle.read_runs.proofs.CameLaws.{laid-none}

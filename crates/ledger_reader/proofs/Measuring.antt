@@ -21,9 +21,9 @@ use Rattle.format.proofs.Good
 use Rattle.format.proofs.Forms.{kept-form, laids-forms}
 use Rattle.format.proofs.EntryLaws.{whole-entries, entries-below}
 use Rattle.format.proofs.TableLaws.{FineLayout, fine-layout, fine-before-layout, GoodTable, good-one, good-list, good-raw, formOf, kept-formOf, good-formOf, content-good, content-all}
-use Rattle.runs.specs.Steps.{refusalIn}
-use Rattle.runs.specs.declared.Step.{Step}
-use Rattle.runs.specs.declared.Step.the-variants as step
+use Rattle.read_runs.specs.Steps.{refusalIn}
+use Rattle.read_runs.specs.declared.Step.{Step}
+use Rattle.read_runs.specs.declared.Step.the-variants as step
 use Rattle.ledger_reader.specs.Held.{Framed, bitsIn, Held, Refuses}
 use Rattle.ledger_reader.specs.Measured.{measureOf}
 use Rattle.ledger_reader.specs.declared.Measure.the-variants.{Size, Refused}

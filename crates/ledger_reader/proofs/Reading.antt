@@ -20,8 +20,8 @@ use Rattle.format.proofs.TableLaws.{FineLayout, fine-layout, fine-before-layout
 use Rattle.format.proofs.Demand.{ledger-all, ledger-again, read-accepted, accepted-good, ledger-length}
 use Rattle.bits.proofs.Groups.{bits-splice}
 use Rattle.bits.proofs.Splices.{length-splice}
-use Rattle.runs.specs.declared.Step.{Step}
-use Rattle.runs.specs.declared.Step.the-variants as step
+use Rattle.read_runs.specs.declared.Step.{Step}
+use Rattle.read_runs.specs.declared.Step.the-variants as step
 use Rattle.ledger_reader.specs.Held.{Framed, bitsIn, Holds}
 use Rattle.ledger_reader.specs.Measured.{measured, measureOf, measureRefusal}
 use Rattle.ledger_reader.specs.declared.Measure.{Measure}

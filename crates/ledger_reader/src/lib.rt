@@ -9,7 +9,7 @@ ghost use lib.ListN.{length, drop};
 ghost use Rattle.format.specs.Refusals.{refuse};
 ghost use Rattle.format.specs.Whole.{layout, laids, counted, contentAs, known, editionFor};
 ghost use Rattle.format.specs.Calls.{readAnswer, readLeft};
-ghost use Rattle.runs.specs.Steps.{stored};
+ghost use Rattle.runs.specs.Stored.{stored};
 ghost use Rattle.read_runs.specs.Came.{LedgerPlaced, wayOf};
 ghost use Rattle.read_plans.specs.Taken.{Taken};
 ghost use Rattle.ledger_reader.specs.Held.{entryOf, listing, fieldsAs, bitsIn, Listed, Framed, Holds};
@@ -20,13 +20,13 @@ use format::Refusal;
 use read_ephemeris::read_header;
 use read_ephemeris::read_position3;
 use read_plans::read_plan;
+use read_runs::Step;
 use read_runs::byte_of;
+use read_runs::step_refusal;
 use read_tables::read_association;
 use read_tables::read_fragment;
 use read_tables::read_position;
-use runs::Step;
 use runs::copy_bytes;
-use runs::step_refusal;
 
 // A refusal whose first value is a place of the ledger.
 fn refused_at(number: u8, place: usize) -> Refusal

@@ -21,9 +21,9 @@ use Rattle.format.proofs.ReadLaws.{rest-at, place-at}
 use Rattle.format.proofs.WalkLaws as walk-laws
 use Rattle.format.proofs.WalkLaws.{ahead, ahead-none, ahead-more, turn-on, turn-no, turn-end}
 use Rattle.bits.proofs.Splices.{splice-splice, splice-front, splice-nil}
-use Rattle.runs.specs.Steps.{stored}
-use Rattle.runs.specs.declared.Step.{Step}
-use Rattle.runs.specs.declared.Step.the-variants.{Refused}
+use Rattle.runs.specs.Stored.{stored}
+use Rattle.write_runs.specs.declared.Step.{Step}
+use Rattle.write_runs.specs.declared.Step.the-variants.{Refused}
 use Rattle.runs.proofs.Stores.{digits-fit}
 use Rattle.write_runs.specs.Went.{outside, Went, Stopped, Placed}
 use Rattle.write_runs.proofs.WentLaws.{pushes-got}

@@ -26,9 +26,10 @@ use Rattle.format.proofs.ReadLaws.{place-at}
 use Rattle.format.proofs.WalkLaws as walk-laws
 use Rattle.format.proofs.TableLaws.{read-all}
 use Rattle.bits.proofs.Splices.{splice-splice, part-splice}
-use Rattle.runs.specs.Steps.{refusalIn, stored}
-use Rattle.runs.specs.declared.Step.{Step}
-use Rattle.runs.specs.declared.Step.the-variants.{Done, Refused}
+use Rattle.runs.specs.Stored.{stored}
+use Rattle.write_runs.specs.Steps.{refusalIn}
+use Rattle.write_runs.specs.declared.Step.{Step}
+use Rattle.write_runs.specs.declared.Step.the-variants.{Done, Refused}
 use Rattle.runs.proofs.Stores.{stored-fits}
 use Rattle.write_runs.specs.Went.{outside, Went, Ran}
 use Rattle.ledger_writer.specs.Listed.{entryOf, leastOf, listing, Listed}
@@ -55,7 +56,7 @@ as-is {ed} {id} {body} {out} h b = record { t = asIs body; reads = rw (layout-op
 -- id 2: one set of fields
 pub once : {ed : Edition} {id : ℕ} {body out out′ : List ℕ} {r : Step} → id ≡ 2 → Ran body (outside ed) association 0 0 out (λ _. end) out′ r → Content ed body id out out′ r
 unfolding readAs contentOf
-once {body = body} {r = Done a p v} q x =
+once {body = body} {r = Done p a v} q x =
     let w = x .to in
     rw q (record {
       to = record {
@@ -72,7 +73,7 @@ once {r = Refused f} q x = rw q (record { to = record { reads = ap (λ (p : Pars
 module _ {ed : Edition} {id : ℕ} {body : List ℕ} {head : Syntax} (is : layout id ≡ many head (leastOf id) (entryOf id)) where
   pub listed : {out out₁ out₂ : List ℕ} {a p : ℕ} {r : Step} → Went body (outside ed) head 0 0 out end a p out₁ → Listed ed body id a p out₁ out₂ r → Content ed body id out out₂ r
   unfolding readAs contentOf
-  listed {out} {out₁} {p = p} {r = Done a₁ p₁ v} w x =
+  listed {out} {out₁} {p = p} {r = Done p₁ a₁ v} w x =
       let y = x .to in
       let ll = length-append (ledger ed (w .ts)) (listing ed (y .es)) in
       let z = w .size in
@@ -91,7 +92,7 @@ module _ {ed : Edition} {id : ℕ} {body : List ℕ} {head : Syntax} (is : layou
 
   pub unheaded : {out out₂ : List ℕ} {f : Refusal} {r : Step} → r ≡ Refused f → Ran body (outside ed) head 0 0 out (λ _. end) out₂ r → Content ed body id out out₂ r
   unfolding readAs
-  unheaded {r = Done a p v} q x = let o : _≡_ {A = ℕ} 0 1 = cc in absurd (omega arith)
+  unheaded {r = Done p a v} q x = let o : _≡_ {A = ℕ} 0 1 = cc in absurd (omega arith)
   unheaded {r = Refused g} q x = record { to = record { reads = rw (is, x .to .reads) } }
 
 pub layout-list : (id : ℕ) → id < 4 → (id ≡ 2 → ⊥) → layout id ≡ many end (leastOf id) (entryOf id)
@@ -137,10 +138,10 @@ size-over ed id body h = rw (filed-over ed id body h)
 
 pub size-no : {ed : Edition} {id : ℕ} {body part part′ : List ℕ} {f g : Refusal} {r : Step} → length body ≤ 4096 → r ≡ Refused f → Content ed body id part part′ r → g ≡ refusalIn r → sized.Refused g ≡ sizeAnswer ed id body
 unfolding sizeAnswer sizeIn refusalIn
-size-no {r = Done a p v} h q x e = let o : _≡_ {A = ℕ} 0 1 = cc in absurd (omega arith)
+size-no {r = Done p a v} h q x e = let o : _≡_ {A = ℕ} 0 1 = cc in absurd (omega arith)
 size-no {ed} {id} {body} {r = Refused f} h q x e = rw (filed-refused ed id body (f .number) (f .need) (f .have) h (x .to .reads), e)
 
-pub content-done : {ed : Edition} {id a p v : ℕ} {body out out′ : List ℕ} {r : Step} → r ≡ Done a p v → Content ed body id out out′ r → Filled ed body id out p out′
+pub content-done : {ed : Edition} {id a p v : ℕ} {body out out′ : List ℕ} {r : Step} → r ≡ Done p a v → Content ed body id out out′ r → Filled ed body id out p out′
 content-done {ed} {id} {body = body} {out} {out′} q x = subst (λ (r : Step). ContentIn ed body id out out′ r) q (x .to)
 
 pub size-yes : {ed : Edition} {id p : ℕ} {body part part′ : List ℕ} → length body ≤ 4096 → Filled ed body id part p part′ → sized.Size (p + 4) ≡ sizeAnswer ed id body
@@ -193,7 +194,7 @@ says-short {need = need} {out = out} k h = (rw (k .file, k .size, lt-leb need (l
 -- what a second going through the body leaves is the same content
 again : (ed : Edition) (body out out′ : List ℕ) (id : ℕ) (t : Table) (r : Step) → readAs (layout id) body ≡ got t [] → Content ed body id out out′ r → length (contentOf ed t) ≤ length out
     → out′ ≡ splice out 0 (contentOf ed t)
-again ed body out out′ id t (Done a p v) e x h =
+again ed body out out′ id t (Done p a v) e x h =
     let y = x .to in
     let q : got (y .t) [] ≡ got t [] = sym (y .reads) ∙ e in
     let z : y .t ≡ t = cc in

@@ -10,8 +10,8 @@ use Rattle.format.specs.Syntax.{Edition, Parse, got, refused}
 use Rattle.format.specs.Whole.{Table, layout, readAs, contentOf, version, editionFor}
 use Rattle.format.specs.Calls.{filed}
 use Rattle.format.specs.declared.Refusal.{Refusal}
-use Rattle.runs.specs.declared.Step as step
-use Rattle.runs.specs.declared.Step.the-variants as to
+use Rattle.write_runs.specs.declared.Step as step
+use Rattle.write_runs.specs.declared.Step.the-variants as to
 use Rattle.ledger_writer.specs.declared.LedgerSize.{LedgerSize}
 use Rattle.ledger_writer.specs.declared.LedgerSize.the-variants.{Size, Refused}
 
@@ -33,7 +33,7 @@ pub record Unread (body : List ℕ) (id : ℕ) (f : Refusal) : Type 0 where
 
 -- what a step over the body says
 abbrev pub ContentIn : Edition → List ℕ → ℕ → List ℕ → List ℕ → step.Step → Type 0
-ContentIn ed body id out out′ (to.Done a p v) = Filled ed body id out p out′
+ContentIn ed body id out out′ (to.Done p a v) = Filled ed body id out p out′
 ContentIn ed body id out out′ (to.Refused f) = Unread body id f
 
 pub record Content (ed : Edition) (body : List ℕ) (id : ℕ) (out out′ : List ℕ) (r : step.Step) : Type 0 where

@@ -12,13 +12,13 @@ ghost use Rattle.ledger_writer.specs.Written.{Versioned, Content, sizeAn
 use bits::put_be;
 use format::Answer;
 use format::Refusal;
-use runs::Step;
 use runs::copy_bytes;
-use runs::step_refusal;
 use write_ephemeris::write_header;
 use write_ephemeris::write_position3;
 use write_plans::write_plan;
+use write_runs::Step;
 use write_runs::put;
+use write_runs::step_refusal;
 use write_runs::within;
 use write_tables::write_association;
 use write_tables::write_fragment;
@@ -35,7 +35,7 @@ fn write_entry(
     version: u8,
     table_id: u8,
     body: &[u8],
-    at: usize,
+    at: u16,
     out: &mut [u8],
     place: usize,
 ) -> Step
@@ -76,7 +76,7 @@ fn write_entries(
     version: u8,
     table_id: u8,
     body: &[u8],
-    start: usize,
+    start: u16,
     out: &mut [u8],
     place: usize,
 ) -> Step
@@ -89,7 +89,7 @@ fn write_entries(
     let mut at = start;
     let mut there = place + 2;
     let mut count: u64 = 0;
-    while least <= bits - at {
+    while least <= bits - at as usize {
         let from = within(there, out.len());
         let entry = write_entry(version, table_id, body, at, &mut out[from..], 0);
         let Step::Done {

@@ -51,16 +51,13 @@ pub enum MaybeMetadata {
 
 // What reading a usable time finds: the time, if its flag is set, and the place behind it; or why it is refused.
 pub enum UsableAnswer {
-    Read { time: MaybeUsableTime, next: usize },
+    Read { time: MaybeUsableTime, next: u16 },
     Refused(Refusal),
 }
 
 // The same for the whole metadata.
 pub enum MetadataAnswer {
-    Read {
-        metadata: MaybeMetadata,
-        next: usize,
-    },
+    Read { metadata: MaybeMetadata, next: u16 },
     Refused(Refusal),
 }
 
@@ -134,7 +131,7 @@ pub fn metadata_refusal(r: MetadataAnswer) -> Refusal
 }
 
 // The usable time at a place where all of it is there.
-fn usable_at(s: &[u8], at: usize) -> UsableTime
+fn usable_at(s: &[u8], at: u16) -> UsableTime
     requires { ⌜ Room (now s) at 56 ⌝ }
     ensures { λ r. ⌜ r ≡ usableOf (now (s .entry)) at ⌝ }
 {
@@ -148,7 +145,7 @@ fn usable_at(s: &[u8], at: usize) -> UsableTime
 }
 
 // A usable time, there only if its flag is 1; refused under a number of the caller's where it passes the data.
-fn read_usable(s: &[u8], at: usize, number: u8, flag: u8) -> UsableAnswer
+fn read_usable(s: &[u8], at: u16, number: u8, flag: u8) -> UsableAnswer
     requires { ⌜ Place (now s) at ⌝ }
     ensures { λ r. ⌜ r ≡ usableAt (now (s .entry)) number flag at ⌝ }
 {
@@ -158,7 +155,7 @@ fn read_usable(s: &[u8], at: usize, number: u8, flag: u8) -> UsableAnswer
             next: at,
         };
     }
-    let have = 8 * s.len() - at;
+    let have = 8 * s.len() - at as usize;
     if have < 56 {
         return UsableAnswer::Refused(Refusal {
             number,
@@ -175,7 +172,7 @@ fn read_usable(s: &[u8], at: usize, number: u8, flag: u8) -> UsableAnswer
 // The metadata at a place where its fixed fields are all there, around usable times read before.
 fn metadata_at(
     s: &[u8],
-    at: usize,
+    at: u16,
     start: MaybeUsableTime,
     stop: MaybeUsableTime,
 ) -> PositionV3Metadata
@@ -203,7 +200,7 @@ fn metadata_at(
 }
 
 // The metadata, there only if its flag is 1; a usable time within it, if its own flag is 1 too.
-pub fn read_metadata(s: &[u8], at: usize, meta: u8, start: u8, stop: u8) -> MetadataAnswer
+pub fn read_metadata(s: &[u8], at: u16, meta: u8, start: u8, stop: u8) -> MetadataAnswer
     requires { ⌜ Place (now s) at ⌝ }
     ensures { λ r. ⌜ r ≡ metadataAt (now (s .entry)) meta start stop at ⌝ }
 {
@@ -213,7 +210,7 @@ pub fn read_metadata(s: &[u8], at: usize, meta: u8, start: u8, stop: u8) -> Meta
             next: at,
         };
     }
-    let have = 8 * s.len() - at;
+    let have = 8 * s.len() - at as usize;
     if have < 120 {
         return MetadataAnswer::Refused(Refusal {
             number: 16,

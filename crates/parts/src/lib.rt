@@ -20,7 +20,7 @@ pub struct Part {
 
 // What reading a list finds: its part and the place behind it, or why it is refused.
 pub enum PartAnswer {
-    Read { part: Part, next: usize },
+    Read { part: Part, next: u16 },
     Refused(Refusal),
 }
 
@@ -39,7 +39,7 @@ pub fn part_refusal(r: PartAnswer) -> Refusal
 }
 
 // A count of 10 bits, and behind it so many elements of some bits each; refused under a number of the caller's where they pass the end.
-pub fn read_part(s: &[u8], at: usize, number: u8, bits: usize) -> PartAnswer
+pub fn read_part(s: &[u8], at: u16, number: u8, bits: usize) -> PartAnswer
     requires { ⌜ Place (now s) at ⌝ }
     requires { ⌜ bits ≤ 80 ⌝ }
     ensures { λ r. ⌜ r ≡ partAt (now (s .entry)) number bits at ⌝ }
@@ -50,16 +50,17 @@ pub fn read_part(s: &[u8], at: usize, number: u8, bits: usize) -> PartAnswer
     };
     let count = value as usize;
     let need = count * bits;
-    let have = 8 * s.len() - next;
+    let from = next as usize;
+    let have = 8 * s.len() - from;
     if have < need {
         return PartAnswer::Refused(Refusal { number, need, have });
     }
     let part = Part {
-        start: next / 8,
+        start: from / 8,
         length: need / 8,
         count,
     };
-    let next = next + need;
+    let next = (from + need) as u16;
     PartAnswer::Read { part, next }
 }
 

@@ -42,7 +42,7 @@ pub struct PlanHead {
 
 // A plan and the place at which the next one starts, or why there is none.
 pub enum BeamhoppingAnswer {
-    Entry { plan: BeamhoppingPlan, next: usize },
+    Entry { plan: BeamhoppingPlan, next: u16 },
     Refused(Refusal),
 }
 
@@ -88,7 +88,7 @@ fn plan_of(
 }
 
 // The fields that plan_length counts, in a plan that ends at a place. The data's end alone limits them here.
-fn read_fields(s: &[u8], at: usize, end: usize, head: PlanHead) -> BeamhoppingAnswer
+fn read_fields(s: &[u8], at: u16, end: u16, head: PlanHead) -> BeamhoppingAnswer
     requires { ⌜ Place (now s) at ⌝ }
     requires { ⌜ at % 8 ≡ 0 ⌝ }
     ensures { λ r. ⌜ r ≡ fieldsAt (now (s .entry)) end head at ⌝ }
@@ -118,13 +118,13 @@ fn read_fields(s: &[u8], at: usize, end: usize, head: PlanHead) -> BeamhoppingAn
 }
 
 // A plan whose fields end at next. They must not pass its end, and the next plan starts there, or at the data's end where that comes first.
-fn closed(plan: BeamhoppingPlan, next: usize, end: usize, all: usize) -> BeamhoppingAnswer
+fn closed(plan: BeamhoppingPlan, next: u16, end: u16, all: u16) -> BeamhoppingAnswer
     ensures { λ r. ⌜ r ≡ planClosed plan next end all ⌝ }
 {
     if end < next {
         return BeamhoppingAnswer::Refused(Refusal {
             number: 14,
-            need: next - end,
+            need: (next - end) as usize,
             have: 0,
         });
     }
@@ -135,7 +135,7 @@ fn closed(plan: BeamhoppingPlan, next: usize, end: usize, all: usize) -> Beamhop
 }
 
 // The plan at a place.
-pub fn read_plan(s: &[u8], at: usize) -> BeamhoppingAnswer
+pub fn read_plan(s: &[u8], at: u16) -> BeamhoppingAnswer
     requires { ⌜ Place (now s) at ⌝ }
     requires { ⌜ at % 8 ≡ 0 ⌝ }
     ensures { λ r. ⌜ r ≡ planAt (now (s .entry)) at ⌝ }
@@ -152,7 +152,7 @@ pub fn read_plan(s: &[u8], at: usize) -> BeamhoppingAnswer
     let Bits::Value { value: bytes, next } = r else {
         return BeamhoppingAnswer::Refused(refusal_of(r));
     };
-    let end = next + 8 * (bytes as usize);
+    let end = (next as usize + 8 * (bytes as usize)) as u16;
     let head = PlanHead {
         id: id as u32,
         reserved: kept as u8,
@@ -162,5 +162,5 @@ pub fn read_plan(s: &[u8], at: usize) -> BeamhoppingAnswer
     let BeamhoppingAnswer::Entry { plan, next } = p else {
         return BeamhoppingAnswer::Refused(plan_refusal(p));
     };
-    closed(plan, next, end, 8 * s.len())
+    closed(plan, next, end, (8 * s.len()) as u16)
 }

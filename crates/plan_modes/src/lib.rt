@@ -55,7 +55,7 @@ pub enum BeamhoppingMode {
 
 // What reading a mode finds: the mode and the place behind it, or why it is refused.
 pub enum ModeAnswer {
-    Mode { mode: BeamhoppingMode, next: usize },
+    Mode { mode: BeamhoppingMode, next: u16 },
     Refused(Refusal),
 }
 
@@ -104,11 +104,11 @@ impl TimePlanMode {
 }
 
 // Mode 0.
-fn read_dwell(s: &[u8], at: usize) -> ModeAnswer
+fn read_dwell(s: &[u8], at: u16) -> ModeAnswer
     requires { ⌜ Place (now s) at ⌝ }
     ensures { λ r. ⌜ ((e : ℕ) → r ≡ dwellAt (now (s .entry)) e at) ⌝ }
 {
-    let have = 8 * s.len() - at;
+    let have = 8 * s.len() - at as usize;
     if have < 96 {
         return ModeAnswer::Refused(Refusal {
             number: 10,
@@ -138,7 +138,7 @@ fn read_dwell(s: &[u8], at: usize) -> ModeAnswer
 }
 
 // Mode 1 where its header is there.
-fn bitmap_at(s: &[u8], at: usize) -> ModeAnswer
+fn bitmap_at(s: &[u8], at: u16) -> ModeAnswer
     requires { ⌜ Room (now s) at 32 ⌝ }
     requires { ⌜ at % 8 ≡ 0 ⌝ }
     ensures { λ r. ⌜ ((e : ℕ) → r ≡ bitmapAt (now (s .entry)) e at) ⌝ }
@@ -148,7 +148,8 @@ fn bitmap_at(s: &[u8], at: usize) -> ModeAnswer
     let reserved_slot = value_at(s, at + 16, 1) as u8;
     let slot = value_at(s, at + 17, 15) as u16;
     let next = at + 32;
-    let have = 8 * s.len() - next;
+    let from = next as usize;
+    let have = 8 * s.len() - from;
     if have < size {
         return ModeAnswer::Refused(Refusal {
             number: 12,
@@ -156,7 +157,7 @@ fn bitmap_at(s: &[u8], at: usize) -> ModeAnswer
             have,
         });
     }
-    let start = next / 8;
+    let start = from / 8;
     let length = (size + 7) / 8;
     let on = slots_on(s, start, size);
     ModeAnswer::Mode {
@@ -172,17 +173,17 @@ fn bitmap_at(s: &[u8], at: usize) -> ModeAnswer
             reserved_zero_future_use_size: reserved_size,
             reserved_zero_future_use_slot: reserved_slot,
         },
-        next: next + 8 * length,
+        next: (from + 8 * length) as u16,
     }
 }
 
 // Mode 1.
-fn read_bitmap(s: &[u8], at: usize) -> ModeAnswer
+fn read_bitmap(s: &[u8], at: u16) -> ModeAnswer
     requires { ⌜ Place (now s) at ⌝ }
     requires { ⌜ at % 8 ≡ 0 ⌝ }
     ensures { λ r. ⌜ ((e : ℕ) → r ≡ bitmapAt (now (s .entry)) e at) ⌝ }
 {
-    let have = 8 * s.len() - at;
+    let have = 8 * s.len() - at as usize;
     if have < 32 {
         return ModeAnswer::Refused(Refusal {
             number: 11,
@@ -194,7 +195,7 @@ fn read_bitmap(s: &[u8], at: usize) -> ModeAnswer
 }
 
 // Mode 2 where its bits are there.
-fn grid_at(s: &[u8], at: usize) -> ModeAnswer
+fn grid_at(s: &[u8], at: u16) -> ModeAnswer
     requires { ⌜ Room (now s) at 192 ⌝ }
     ensures { λ r. ⌜ ((e : ℕ) → r ≡ gridAt (now (s .entry)) e at) ⌝ }
 {
@@ -234,11 +235,11 @@ fn grid_at(s: &[u8], at: usize) -> ModeAnswer
 }
 
 // Mode 2.
-fn read_grid(s: &[u8], at: usize) -> ModeAnswer
+fn read_grid(s: &[u8], at: u16) -> ModeAnswer
     requires { ⌜ Place (now s) at ⌝ }
     ensures { λ r. ⌜ ((e : ℕ) → r ≡ gridAt (now (s .entry)) e at) ⌝ }
 {
-    let have = 8 * s.len() - at;
+    let have = 8 * s.len() - at as usize;
     if have < 192 {
         return ModeAnswer::Refused(Refusal {
             number: 13,
@@ -250,12 +251,12 @@ fn read_grid(s: &[u8], at: usize) -> ModeAnswer
 }
 
 // Mode 3: the bytes up to the plan's end, or none where that is past the data.
-fn read_raw(s: &[u8], at: usize, end: usize) -> ModeAnswer
+fn read_raw(s: &[u8], at: u16, end: u16) -> ModeAnswer
     requires { ⌜ Place (now s) at ⌝ }
     ensures { λ r. ⌜ r ≡ rawAt (now (s .entry)) end at ⌝ }
 {
-    let start = at / 8;
-    if 8 * s.len() < end {
+    let start = at as usize / 8;
+    if 8 * s.len() < end as usize {
         return ModeAnswer::Mode {
             mode: BeamhoppingMode::Reserved(Part {
                 start,
@@ -275,7 +276,7 @@ fn read_raw(s: &[u8], at: usize, end: usize) -> ModeAnswer
             next: at,
         };
     }
-    let length = (end - at) / 8;
+    let length = (end - at) as usize / 8;
     ModeAnswer::Mode {
         mode: BeamhoppingMode::Reserved(Part {
             start,
@@ -287,7 +288,7 @@ fn read_raw(s: &[u8], at: usize, end: usize) -> ModeAnswer
 }
 
 // The mode of a number, in a plan that ends at a place.
-pub fn read_mode(s: &[u8], at: usize, end: usize, mode: u64) -> ModeAnswer
+pub fn read_mode(s: &[u8], at: u16, end: u16, mode: u64) -> ModeAnswer
     requires { ⌜ Place (now s) at ⌝ }
     requires { ⌜ at % 8 ≡ 0 ⌝ }
     ensures { λ r. ⌜ r ≡ modeAt (now (s .entry)) end mode at ⌝ }

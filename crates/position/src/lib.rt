@@ -41,10 +41,7 @@ pub struct PositionV2Satellite {
 
 // What reading a position finds, and the place behind it.
 pub enum SystemAnswer {
-    Read {
-        position: PositionSystem,
-        next: usize,
-    },
+    Read { position: PositionSystem, next: u16 },
     Refused(Refusal),
 }
 
@@ -52,7 +49,7 @@ pub enum SystemAnswer {
 pub enum PositionV2Answer {
     Entry {
         satellite: PositionV2Satellite,
-        next: usize,
+        next: u16,
     },
     Refused(Refusal),
 }
@@ -92,11 +89,11 @@ pub fn position_refusal(r: PositionV2Answer) -> Refusal
 }
 
 // A place on the orbit: 24 bits, tested together.
-fn read_orbital(s: &[u8], at: usize) -> SystemAnswer
+fn read_orbital(s: &[u8], at: u16) -> SystemAnswer
     requires { ⌜ Place (now s) at ⌝ }
     ensures { λ r. ⌜ r ≡ orbitalAt (now (s .entry)) at ⌝ }
 {
-    let have = 8 * s.len() - at;
+    let have = 8 * s.len() - at as usize;
     if have < 24 {
         return SystemAnswer::Refused(Refusal {
             number: 3,
@@ -116,7 +113,7 @@ fn read_orbital(s: &[u8], at: usize) -> SystemAnswer
 }
 
 // The orbital elements from a place where all of them are there.
-fn elements_at(s: &[u8], at: usize) -> PositionSystem
+fn elements_at(s: &[u8], at: u16) -> PositionSystem
     requires { ⌜ Room (now s) at 344 ⌝ }
     ensures { λ r. ⌜ Read r (at + 344) ≡ elementsAt (now (s .entry)) at ⌝ }
 {
@@ -137,11 +134,11 @@ fn elements_at(s: &[u8], at: usize) -> PositionSystem
 }
 
 // The orbital elements: 344 bits, tested together.
-fn read_elements(s: &[u8], at: usize) -> SystemAnswer
+fn read_elements(s: &[u8], at: u16) -> SystemAnswer
     requires { ⌜ Place (now s) at ⌝ }
     ensures { λ r. ⌜ r ≡ elementsAt (now (s .entry)) at ⌝ }
 {
-    let have = 8 * s.len() - at;
+    let have = 8 * s.len() - at as usize;
     if have < 344 {
         return SystemAnswer::Refused(Refusal {
             number: 4,
@@ -156,7 +153,7 @@ fn read_elements(s: &[u8], at: usize) -> SystemAnswer
 }
 
 // The position that position_system chooses.
-fn read_system(s: &[u8], at: usize, kind: u64) -> SystemAnswer
+fn read_system(s: &[u8], at: u16, kind: u64) -> SystemAnswer
     requires { ⌜ Place (now s) at ⌝ }
     ensures { λ r. ⌜ r ≡ systemAt (now (s .entry)) kind at ⌝ }
 {
@@ -167,7 +164,7 @@ fn read_system(s: &[u8], at: usize, kind: u64) -> SystemAnswer
 }
 
 // The satellite at a place.
-pub fn read_satellite(s: &[u8], at: usize) -> PositionV2Answer
+pub fn read_satellite(s: &[u8], at: u16) -> PositionV2Answer
     requires { ⌜ Place (now s) at ⌝ }
     ensures { λ r. ⌜ r ≡ satelliteAt (now (s .entry)) at ⌝ }
 {

@@ -35,10 +35,7 @@ pub struct PositionV3Header {
 
 // What reading the header finds: the header and the place behind it, or why it is refused.
 pub enum HeaderAnswer {
-    Header {
-        header: PositionV3Header,
-        next: usize,
-    },
+    Header { header: PositionV3Header, next: u16 },
     Refused(Refusal),
 }
 
@@ -58,7 +55,7 @@ pub struct PositionV3Satellite {
 pub enum PositionV3Answer {
     Entry {
         satellite: PositionV3Satellite,
-        next: usize,
+        next: u16,
     },
     Refused(Refusal),
 }
@@ -78,7 +75,7 @@ pub struct Flags {
 }
 
 pub enum FlagsAnswer {
-    Read { flags: Flags, next: usize },
+    Read { flags: Flags, next: u16 },
     Refused(Refusal),
 }
 
@@ -91,7 +88,7 @@ pub struct Front {
 }
 
 pub enum FrontAnswer {
-    Read { front: Front, next: usize },
+    Read { front: Front, next: u16 },
     Refused(Refusal),
 }
 
@@ -128,7 +125,7 @@ pub fn satellite_v3_refusal(r: PositionV3Answer) -> Refusal
 
 // Reads the header of a body.
 pub fn read_header(s: &[u8]) -> HeaderAnswer
-    requires { ⌜ length (now s) ≤ 65536 ⌝ }
+    requires { ⌜ length (now s) ≤ 4096 ⌝ }
     ensures { λ r. ⌜ r ≡ headerAt (now (s .entry)) ⌝ }
 {
     let have = 8 * s.len();
@@ -188,7 +185,7 @@ fn front_refusal(r: FrontAnswer) -> Refusal
 }
 
 // Reads the four flags.
-fn read_flags(s: &[u8], at: usize) -> FlagsAnswer
+fn read_flags(s: &[u8], at: u16) -> FlagsAnswer
     requires { ⌜ Place (now s) at ⌝ }
     ensures { λ r. ⌜ r ≡ flagsAt (now (s .entry)) at ⌝ }
 {
@@ -218,7 +215,7 @@ fn read_flags(s: &[u8], at: usize) -> FlagsAnswer
 }
 
 // Reads a satellite's id, reserved bits and flags.
-fn read_front(s: &[u8], at: usize) -> FrontAnswer
+fn read_front(s: &[u8], at: u16) -> FrontAnswer
     requires { ⌜ Place (now s) at ⌝ }
     ensures { λ r. ⌜ r ≡ frontAt (now (s .entry)) at ⌝ }
 {
@@ -258,7 +255,7 @@ fn refused(f: Refusal) -> PositionV3Read
 }
 
 // The elements of a covariance that ends at a place, or zeros if there is none.
-fn elements_before(s: &[u8], next: usize, flag: u8) -> [u32; 21]
+fn elements_before(s: &[u8], next: u16, flag: u8) -> [u32; 21]
     requires { ⌜ Tail (now s) flag next ⌝ }
     ensures { λ r. ⌜ r ≡ elementsBefore (now (s .entry)) flag next ⌝ }
 {
@@ -269,7 +266,7 @@ fn elements_before(s: &[u8], next: usize, flag: u8) -> [u32; 21]
 }
 
 // Reads the satellite at a place.
-pub fn read_satellite_v3(s: &[u8], at: usize) -> PositionV3Read
+pub fn read_satellite_v3(s: &[u8], at: u16) -> PositionV3Read
     requires { ⌜ Place (now s) at ⌝ }
     requires { ⌜ at % 8 ≡ 0 ⌝ }
     ensures { λ r. ⌜ r ≡ readV3At (now (s .entry)) at ⌝ }

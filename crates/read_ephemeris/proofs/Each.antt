@@ -11,8 +11,8 @@ use Rattle.format.specs.Syntax.{Syntax, end}
 use Rattle.format.specs.Tables.{times, usable, metadata, motion, acceleration, ephemeris}
 use Rattle.format.specs.declared.Refusal.{Refusal}
 use Rattle.format.proofs.Good.{Fine, least-zero}
-use Rattle.runs.specs.declared.Step.{Step}
-use Rattle.runs.specs.declared.Step.the-variants.{Refused}
+use Rattle.read_runs.specs.declared.Step.{Step}
+use Rattle.read_runs.specs.declared.Step.the-variants.{Refused}
 use Rattle.read_runs.specs.Came.{LedgerPlaced, Way, someWay, Came, Laid}
 use Rattle.read_runs.proofs.CameLaws.{stay, go-on, then, stops}
 use Rattle.read_runs.proofs.Runs.{placed-on}

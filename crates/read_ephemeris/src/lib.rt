@@ -5,9 +5,9 @@ ghost use Rattle.format.specs.Syntax.{Name, Syntax, end};
 ghost use Rattle.format.specs.Tables.{times, header, usable, metadata, ephemeris, covariance, ephemerides, position3};
 ghost use Rattle.read_runs.specs.Came.{Way, LedgerPlaced, Laid};
 ghost use Rattle.read_ephemeris.specs.Flagged.{flagged};
+use read_runs::Step;
 use read_runs::byte_of;
 use read_runs::read_run;
-use runs::Step;
 use runs::marks;
 
 // The header.

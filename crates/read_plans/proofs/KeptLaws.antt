@@ -27,8 +27,8 @@ use Rattle.format.proofs.PlanLaws.{behindLength, plan-field, behindRaw, filler-
 use Rattle.bits.proofs.Splices.{splice-splice}
 use Rattle.write_runs.specs.Went.{pushes}
 use Rattle.write_runs.proofs.WentLaws.{pushes-got, pushes-refused}
-use Rattle.runs.specs.declared.Step.{Step}
-use Rattle.runs.specs.declared.Step.the-variants.{Refused}
+use Rattle.read_runs.specs.declared.Step.{Step}
+use Rattle.read_runs.specs.declared.Step.the-variants.{Refused}
 use Rattle.read_runs.specs.Came.{Way, wayOf, Came, Halted, Laid}
 use Rattle.read_runs.proofs.CameLaws.{stopped}
 use Rattle.read_plans.specs.Taken.{Took, Taken, leavesBy}

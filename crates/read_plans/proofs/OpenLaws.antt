@@ -12,8 +12,8 @@ use Rattle.format.specs.Syntax.{unsigned, Syntax, end, field, plan, Edition, ed
 use Rattle.format.specs.Tables.{hopping}
 use Rattle.format.specs.Whole.{editionFor}
 use Rattle.format.specs.declared.Refusal.{Refusal}
-use Rattle.runs.specs.declared.Step.{Step}
-use Rattle.runs.specs.declared.Step.the-variants.{Done, Refused}
+use Rattle.read_runs.specs.declared.Step.{Step}
+use Rattle.read_runs.specs.declared.Step.the-variants.{Done, Refused}
 use Rattle.read_runs.specs.Came.{LedgerPlaced, Way, wayOf, Came, Laid}
 use Rattle.read_runs.proofs.CameLaws.{done, then, go-on}
 use Rattle.read_runs.proofs.Runs.{placed-on}

@@ -13,8 +13,8 @@ use Rattle.format.specs.Ledger.{readLedger}
 use Rattle.format.specs.declared.Refusal.{Refusal}
 use Rattle.format.proofs.DigitLaws.{length-digits, length-bits}
 use Rattle.bits.proofs.Splices.{splice-front, splice-splice}
-use Rattle.runs.specs.declared.Step.{Step}
-use Rattle.runs.specs.declared.Step.the-variants.{Done, Refused}
+use Rattle.read_runs.specs.declared.Step.{Step}
+use Rattle.read_runs.specs.declared.Step.the-variants.{Done, Refused}
 use Rattle.write_runs.specs.Went.{pushes}
 use Rattle.write_runs.proofs.WentLaws.{pushes-append, pushes-refused, pushes-got}
 use Rattle.read_runs.specs.Came.{Way, wayOf, Came, Halted, Laid}

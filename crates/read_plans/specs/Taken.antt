@@ -12,8 +12,8 @@ use Rattle.format.specs.Syntax.{unsigned, Syntax, end, field, plan, Field, Edit
 use Rattle.format.specs.Tables.{hopping}
 use Rattle.format.specs.Body.{laid}
 use Rattle.format.specs.Ledger.{readLedger}
-use Rattle.runs.specs.declared.Step.{Step}
-use Rattle.runs.specs.declared.Step.the-variants.{Done, Refused}
+use Rattle.read_runs.specs.declared.Step.{Step}
+use Rattle.read_runs.specs.declared.Step.the-variants.{Done, Refused}
 use Rattle.read_runs.specs.Came.{Way, wayOf, Came, Halted, Laid}
 
 -- s is read to its end, and its fields are laid in the body, if that has room for them

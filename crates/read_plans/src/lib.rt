@@ -6,15 +6,15 @@ ghost use Rattle.format.specs.Digits.{bitsOf};
 ghost use Rattle.format.specs.Syntax.{Name, Syntax, end, slots, raw};
 ghost use Rattle.format.specs.Whole.{editionFor};
 ghost use Rattle.format.specs.Tables.{bitmap, mode, hopping, beamhopping};
-ghost use Rattle.runs.specs.Steps.{stored};
+ghost use Rattle.runs.specs.Stored.{stored};
 ghost use Rattle.read_runs.specs.Came.{LedgerPlaced, Way, wayOf, Laid};
 ghost use Rattle.read_plans.specs.Taken.{Taken, Spared, Opened, Closed, leavesBy};
 use bits::get_be;
 use bits::value_at;
 use format::Refusal;
+use read_runs::Step;
 use read_runs::lay;
 use read_runs::read_run;
-use runs::Step;
 use runs::copy_bytes;
 use runs::marks;
 
@@ -54,7 +54,7 @@ fn read_slots(ledger: &[u8], place: usize, m: usize, out: &mut [u8], at: usize) 
     }
     let end = place + whole;
     let packed = &ledger[place..end];
-    if value_at(packed, m, 8 * whole - m) != 0 {
+    if value_at(packed, m as u16, 8 * whole - m) != 0 {
         return Step::Refused(Refusal {
             number: 25,
             need: place,

@@ -18,8 +18,8 @@ use Rattle.format.proofs.Good.{Fine, fine-before, whole, laid-nil, laid-num}
 use Rattle.format.proofs.Forms.{kept-form}
 use Rattle.format.proofs.LedgerLaws.{found}
 use Rattle.runs.specs.Lines.{signOf, widthOf, sizeOf, tested, run, widthsOf, sizesOf, headName, tailNames}
-use Rattle.runs.specs.declared.Step.{Step}
-use Rattle.runs.specs.declared.Step.the-variants.{Done}
+use Rattle.read_runs.specs.declared.Step.{Step}
+use Rattle.read_runs.specs.declared.Step.the-variants.{Done}
 use Rattle.write_runs.proofs.WentLaws.{pushes-got}
 use Rattle.read_runs.specs.Came.{Way, someWay, Came, Laid}
 use Rattle.read_runs.proofs.CameLaws.{test-passed, done}

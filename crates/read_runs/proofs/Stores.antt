@@ -7,7 +7,7 @@ use native.Mathlib.Omega.{arith}
 use lib.ListN.{length}
 use Rattle.format.specs.Digits.{bitsOf, splice}
 use Rattle.format.proofs.DigitLaws.{length-bits}
-use Rattle.runs.specs.Steps.{stored}
+use Rattle.runs.specs.Stored.{stored}
 use Rattle.runs.proofs.Stores.{stored-fits}
 
 pub fits : (out out′ xs : List ℕ) (at w : ℕ) → bitsOf out′ ≡ stored (bitsOf out) at xs → length xs ≡ w → at + w ≤ 8 * length out

@@ -9,17 +9,42 @@ ghost use Rattle.format.specs.Digits.{digits, bitsOf};
 ghost use Rattle.format.specs.Syntax.{Name, Syntax};
 ghost use Rattle.format.specs.Tables.{times};
 ghost use Rattle.runs.specs.Lines.{widthOf, markOk, marksOk, line, run, runOf};
-ghost use Rattle.runs.specs.Steps.{lastOf, stored};
+ghost use Rattle.runs.specs.Stored.{stored};
 ghost use Rattle.read_runs.specs.Came.{LedgerPlaced, Way, Laid};
+ghost use Rattle.read_runs.specs.Steps.{refusalIn, lastOf};
 use bits::get_be;
 use bits::write_u;
 use format::Refusal;
-use runs::Step;
 use runs::low_of;
 use runs::shown_of;
 use runs::size_of;
 use runs::width_of;
 use write_runs::within;
+
+// Where a step came to: its place in the body that is laid, in bits, its place in the ledger, and the last field's
+// number; or a refusal. A long ledger lays more than 65,535 bits before it is refused by 26, so the place is wide.
+pub enum Step {
+    Done { at: usize, place: usize, last: u64 },
+    Refused(Refusal),
+}
+
+// The refusal of a step; zeros where there is none.
+pub fn step_refusal(step: Step) -> Refusal
+    ensures { λ f. ⌜ f ≡ refusalIn step ⌝ }
+{
+    match step {
+        Step::Done {
+            at: _,
+            place: _,
+            last: _,
+        } => Refusal {
+            number: 0,
+            need: 0,
+            have: 0,
+        },
+        Step::Refused(f) => f,
+    }
+}
 
 // Stores the low bits of v at a bit place where there is room for them; else the buffer stays as it is.
 pub fn lay(out: &mut [u8], at: usize, width: usize, v: u64)

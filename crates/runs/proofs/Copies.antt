@@ -9,7 +9,7 @@ use lib.ListN.{length, take, getD, set}
 use lib.Seq.{take-suc, take-all, length-take-le}
 use Rattle.format.specs.Digits.{splice}
 use Rattle.bits.proofs.Splices.{length-splice, splice-nil, splice-splice, set-one}
-use Rattle.runs.specs.Steps.{stored}
+use Rattle.runs.specs.Stored.{stored}
 use Rattle.runs.proofs.Stores.{stored-fits}
 
 -- the first i elements are copied

@@ -11,7 +11,7 @@ use borrow.Author.Tests.{le-leb, lt-leb, leb-true}
 use Rattle.format.specs.Digits.{digits, splice}
 use Rattle.format.proofs.DigitLaws.{length-digits}
 use Rattle.bits.proofs.Splices.{length-splice}
-use Rattle.runs.specs.Steps.{stored}
+use Rattle.runs.specs.Stored.{stored}
 
 -- room for all of them, or not
 pub stored-fits : (out : List ℕ) (at : ℕ) (xs : List ℕ) → at + length xs ≤ length out → stored out at xs ≡ splice out at xs

@@ -1,37 +1,12 @@
-// What both directions of the ledger share: what a field is, by its mark in a run of fields; the answer of a step; bytes copied as they are.
+// What both directions of the ledger share: what a field is, by its mark in a run of fields; bytes copied as they are.
 ghost use mathlib.Core.Path.{_≡_};
 ghost use Prim.Native.Nat.{_%_, _^_, _<_};
 ghost use lib.Dec.{T};
 ghost use Rattle.runs.specs.Lines.{widthOf, sizeOf, sizeFor, shownOf, markOk};
-ghost use Rattle.runs.specs.Steps.{refusalIn, stored};
-use format::Refusal;
+ghost use Rattle.runs.specs.Stored.{stored};
 use marks::EXT;
 
 pub mod marks;
-
-// Where a step came to: its place in the body, in bits, its place in the ledger, and the last field's number; or a refusal.
-pub enum Step {
-    Done { at: usize, place: usize, last: u64 },
-    Refused(Refusal),
-}
-
-// The refusal of a step; zeros where there is none.
-pub fn step_refusal(step: Step) -> Refusal
-    ensures { λ f. ⌜ f ≡ refusalIn step ⌝ }
-{
-    match step {
-        Step::Done {
-            at: _,
-            place: _,
-            last: _,
-        } => Refusal {
-            number: 0,
-            need: 0,
-            have: 0,
-        },
-        Step::Refused(f) => f,
-    }
-}
 
 // The bits of a field in a body.
 pub fn width_of(mark: u8) -> usize

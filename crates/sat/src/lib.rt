@@ -150,7 +150,7 @@ pub fn header(table_id: u8, body: &[u8]) -> BodyHeader
 }
 
 // The entry at a place: one function for each table.
-fn satellite_entry(s: &[u8], at: usize) -> EntryAnswer
+fn satellite_entry(s: &[u8], at: u16) -> EntryAnswer
     requires { ⌜ Place (now s) at ⌝ }
     ensures { λ r. ⌜ r ≡ typedAt 0 (now (s .entry)) at ⌝ }
 {
@@ -161,7 +161,7 @@ fn satellite_entry(s: &[u8], at: usize) -> EntryAnswer
     EntryAnswer::Entry(SatEntry::PositionV2(satellite))
 }
 
-fn fragment_entry(s: &[u8], at: usize) -> EntryAnswer
+fn fragment_entry(s: &[u8], at: u16) -> EntryAnswer
     requires { ⌜ Place (now s) at ⌝ }
     ensures { λ r. ⌜ r ≡ typedAt 1 (now (s .entry)) at ⌝ }
 {
@@ -173,7 +173,7 @@ fn fragment_entry(s: &[u8], at: usize) -> EntryAnswer
 }
 
 fn association_entry(s: &[u8]) -> EntryAnswer
-    requires { ⌜ length (now s) ≤ 65536 ⌝ }
+    requires { ⌜ length (now s) ≤ 4096 ⌝ }
     ensures { λ r. ⌜ r ≡ typedAt 2 (now (s .entry)) 0 ⌝ }
 {
     let r = read_association(s);
@@ -187,7 +187,7 @@ fn association_entry(s: &[u8]) -> EntryAnswer
     EntryAnswer::Entry(SatEntry::TimeAssociation(association))
 }
 
-fn plan_entry(s: &[u8], at: usize) -> EntryAnswer
+fn plan_entry(s: &[u8], at: u16) -> EntryAnswer
     requires { ⌜ Place (now s) at × (at % 8 ≡ 0) ⌝ }
     ensures { λ r. ⌜ r ≡ typedAt 3 (now (s .entry)) at ⌝ }
 {
@@ -199,7 +199,7 @@ fn plan_entry(s: &[u8], at: usize) -> EntryAnswer
 }
 
 // Id 4, with the covariance's elements beside the entry.
-fn satellite_v3_entry(s: &[u8], at: usize) -> EntryRead
+fn satellite_v3_entry(s: &[u8], at: u16) -> EntryRead
     requires { ⌜ Place (now s) at × (at % 8 ≡ 0) ⌝ }
     ensures { λ r. ⌜ (r .answer ≡ typedAt 4 (now (s .entry)) at) × (r .«covariance_elements» ≡ elementsFor 4 (now (s .entry)) at) ⌝ }
 {
@@ -230,7 +230,7 @@ fn raw_part(s: &[u8]) -> Part
 }
 
 // The entry of a table without covariance.
-fn other_entry(table_id: u8, s: &[u8], at: usize) -> EntryAnswer
+fn other_entry(table_id: u8, s: &[u8], at: u16) -> EntryAnswer
     requires { ⌜ (Place (now s) at × (at % 8 ≡ 0)) × («table_id» ≡ 2 → at ≡ 0) × («table_id» ≡ 4 → ⊥) ⌝ }
     ensures { λ r. ⌜ r ≡ typedAt «table_id» (now (s .entry)) at ⌝ }
 {
@@ -281,13 +281,13 @@ pub fn entry_at(table_id: u8, body: &[u8], index: usize) -> EntryRead
 }
 
 // The part that a list's entries lie in: from the bit place of the first to the one where the reading ended.
-fn list_part(start: usize, end: usize, count: usize) -> Part
+fn list_part(start: u16, end: u16, count: usize) -> Part
     requires { ⌜ start ≤ end ⌝ }
     ensures { λ r. ⌜ r ≡ listPart start end count ⌝ }
 {
-    let bits = end - start;
+    let bits = (end - start) as usize;
     Part {
-        start: start / 8,
+        start: start as usize / 8,
         length: bits / 8,
         count,
     }
@@ -295,7 +295,7 @@ fn list_part(start: usize, end: usize, count: usize) -> Part
 
 // A body that reads, with its number of entries and the place where the reading ended: id 2, id 4, and the others.
 fn association_body(s: &[u8]) -> SatBodyAnswer
-    requires { ⌜ length (now s) ≤ 65536 ⌝ }
+    requires { ⌜ length (now s) ≤ 4096 ⌝ }
     ensures { λ r. ⌜ r ≡ associationBody (now (s .entry)) ⌝ }
 {
     let r = read_association(s);
@@ -309,8 +309,8 @@ fn association_body(s: &[u8]) -> SatBodyAnswer
     SatBodyAnswer::Body(SatBody::TimeAssociation(association))
 }
 
-fn position_v3_body(s: &[u8], count: usize, end: usize) -> SatBodyAnswer
-    requires { ⌜ (length (now s) ≤ 65536) × (headEnd 4 (now s) ≤ end) ⌝ }
+fn position_v3_body(s: &[u8], count: usize, end: u16) -> SatBodyAnswer
+    requires { ⌜ (length (now s) ≤ 4096) × (headEnd 4 (now s) ≤ end) ⌝ }
     ensures { λ r. ⌜ r ≡ position3Body (now (s .entry)) count end ⌝ }
 {
     let r = read_header(s);
@@ -329,7 +329,7 @@ fn position_v3_body(s: &[u8], count: usize, end: usize) -> SatBodyAnswer
     }))
 }
 
-fn other_body(table_id: u8, s: &[u8], count: usize, end: usize) -> SatBodyAnswer
+fn other_body(table_id: u8, s: &[u8], count: usize, end: u16) -> SatBodyAnswer
     requires { ⌜ («table_id» ≡ 2 → ⊥) × («table_id» ≡ 4 → ⊥) ⌝ }
     ensures { λ r. ⌜ r ≡ typedBody «table_id» (now (s .entry)) count end ⌝ }
 {

@@ -42,7 +42,7 @@ pub enum MaybeObsolescentDeliverySystem {
 
 // A count of 10 bits, and behind it so many systems: refused under a number of the caller's where they pass the end,
 // and then by the first of their clocks that is refused.
-pub fn read_systems(s: &[u8], at: usize, number: u8) -> PartAnswer
+pub fn read_systems(s: &[u8], at: u16, number: u8) -> PartAnswer
     requires { ⌜ Place (now s) at ⌝ }
     ensures { λ r. ⌜ r ≡ systemsAt (now (s .entry)) number at ⌝ }
 {
@@ -53,7 +53,7 @@ pub fn read_systems(s: &[u8], at: usize, number: u8) -> PartAnswer
     let count = part.count;
     let mut i = 0;
     while i < count {
-        let clock = clock_within(s, at + 10 + 80 * i + 32);
+        let clock = clock_within(s, (at as usize + 10 + 80 * i + 32) as u16);
         let ClockAnswer::Read { .. } = clock else {
             return PartAnswer::Refused(clock_refusal(clock));
         };
@@ -91,7 +91,7 @@ pub fn delivery_system_id_at(body: &[u8], part: Part, index: usize) -> MaybeDeli
     if !there {
         return MaybeDeliverySystemId::None;
     }
-    let at = 8 * (part.start + 4 * index);
+    let at = (8 * (part.start + 4 * index)) as u16;
     MaybeDeliverySystemId::Id(value_at(body, at, 32) as u32)
 }
 
@@ -103,7 +103,7 @@ pub fn new_delivery_system_at(body: &[u8], part: Part, index: usize) -> MaybeNew
     if !there {
         return MaybeNewDeliverySystem::None;
     }
-    let at = 8 * (part.start + 10 * index);
+    let at = (8 * (part.start + 10 * index)) as u16;
     let id = value_at(body, at, 32) as u32;
     let r = clock_within(body, at + 32);
     let ClockAnswer::Read { clock, .. } = r else {
@@ -129,7 +129,7 @@ pub fn obsolescent_delivery_system_at(
     if !there {
         return MaybeObsolescentDeliverySystem::None;
     }
-    let at = 8 * (part.start + 10 * index);
+    let at = (8 * (part.start + 10 * index)) as u16;
     let id = value_at(body, at, 32) as u32;
     let r = clock_within(body, at + 32);
     let ClockAnswer::Read { clock, .. } = r else {

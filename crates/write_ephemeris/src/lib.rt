@@ -5,18 +5,18 @@ ghost use Rattle.format.specs.Tables.{times, header, usable, metadata, ephemeri
 ghost use Rattle.write_runs.specs.Went.{Around, Placed, Ran};
 ghost use Rattle.write_ephemeris.specs.Rest.{flagged, unflagged, ephemerisTo};
 use format::Refusal;
-use runs::Step;
 use runs::marks;
+use write_runs::Step;
 use write_runs::within;
 use write_runs::write_needed;
 use write_runs::write_run;
 
 // Versions and creation date.
-pub fn write_header(body: &[u8], at: usize, out: &mut [u8], place: usize) -> Step
+pub fn write_header(body: &[u8], at: u16, out: &mut [u8], place: usize) -> Step
     requires { ⌜ Placed (now body) at place ⌝ }
     ensures { λ r. ⌜ ((e : Around) → Ran (now (body .entry)) e header at place (now (out .entry)) (λ _. end) (now (out .exit)) r) ⌝ }
 {
-    let have = 8 * body.len() - at;
+    let have = 8 * body.len() - at as usize;
     if have < 1 {
         return Step::Refused(Refusal {
             number: 2,
@@ -28,7 +28,7 @@ pub fn write_header(body: &[u8], at: usize, out: &mut [u8], place: usize) -> Ste
 }
 
 // A usable time, where its flag is set.
-fn write_usable(body: &[u8], at: usize, number: u8, flag: u64, out: &mut [u8], place: usize) -> Step
+fn write_usable(body: &[u8], at: u16, number: u8, flag: u64, out: &mut [u8], place: usize) -> Step
     requires { ⌜ Placed (now body) at place ⌝ }
     ensures { λ r. ⌜ ((e : Around) (nm : Name) (s : Syntax) → Ran (now (body .entry)) e (usable number nm flag s) at place (now (out .entry)) (λ _. s) (now (out .exit)) r) ⌝ }
 {
@@ -39,14 +39,7 @@ fn write_usable(body: &[u8], at: usize, number: u8, flag: u64, out: &mut [u8], p
 }
 
 // The metadata, and the usable times behind them.
-fn write_metadata(
-    body: &[u8],
-    at: usize,
-    start: u64,
-    stop: u64,
-    out: &mut [u8],
-    place: usize,
-) -> Step
+fn write_metadata(body: &[u8], at: u16, start: u64, stop: u64, out: &mut [u8], place: usize) -> Step
     requires { ⌜ Placed (now body) at place ⌝ }
     ensures { λ r. ⌜ ((e : Around) (s : Syntax) → Ran (now (body .entry)) e (metadata start stop s) at place (now (out .entry)) (λ _. s) (now (out .exit)) r) ⌝ }
 {
@@ -62,7 +55,7 @@ fn write_metadata(
 }
 
 // One ephemeris entry, tested by itself.
-fn write_entry(body: &[u8], at: usize, accel: u64, out: &mut [u8], place: usize) -> Step
+fn write_entry(body: &[u8], at: u16, accel: u64, out: &mut [u8], place: usize) -> Step
     requires { ⌜ Placed (now body) at place ⌝ }
     ensures { λ r. ⌜ ((e : Around) (k : ℕ → Syntax) → Ran (now (body .entry)) e (ephemerisTo accel k) at place (now (out .entry)) k (now (out .exit)) r) ⌝ }
 {
@@ -73,7 +66,7 @@ fn write_entry(body: &[u8], at: usize, accel: u64, out: &mut [u8], place: usize)
 }
 
 // So many ephemeris entries, each from where the last one ended.
-fn write_each(body: &[u8], at: usize, accel: u64, count: u64, out: &mut [u8], place: usize) -> Step
+fn write_each(body: &[u8], at: u16, accel: u64, count: u64, out: &mut [u8], place: usize) -> Step
     requires { ⌜ Placed (now body) at place ⌝ }
     ensures { λ r. ⌜ ((e : Around) (s : Syntax) → Ran (now (body .entry)) e (times count (ephemeris accel) s) at place (now (out .entry)) (λ _. s) (now (out .exit)) r) ⌝ }
 {
@@ -105,7 +98,7 @@ fn write_each(body: &[u8], at: usize, accel: u64, count: u64, out: &mut [u8], pl
 // The ephemeris entries behind their count, and the covariance where its flag is set.
 fn write_ephemerides(
     body: &[u8],
-    at: usize,
+    at: u16,
     accel: u64,
     cov: u64,
     out: &mut [u8],
@@ -136,7 +129,7 @@ fn write_ephemerides(
 // What follows a satellite's flags.
 fn write_flagged(
     body: &[u8],
-    at: usize,
+    at: u16,
     meta: u64,
     start: u64,
     stop: u64,
@@ -159,7 +152,7 @@ fn write_flagged(
 }
 
 // A satellite's other three flags, and what follows them.
-fn write_flags(body: &[u8], at: usize, meta: u64, start: u64, out: &mut [u8], place: usize) -> Step
+fn write_flags(body: &[u8], at: u16, meta: u64, start: u64, out: &mut [u8], place: usize) -> Step
     requires { ⌜ Placed (now body) at place ⌝ }
     ensures { λ r. ⌜ ((e : Around) → Ran (now (body .entry)) e (unflagged meta start) at place (now (out .entry)) (λ _. end) (now (out .exit)) r) ⌝ }
 {
@@ -194,7 +187,7 @@ fn write_flags(body: &[u8], at: usize, meta: u64, start: u64, out: &mut [u8], pl
 }
 
 // A satellite.
-pub fn write_position3(body: &[u8], at: usize, out: &mut [u8], place: usize) -> Step
+pub fn write_position3(body: &[u8], at: u16, out: &mut [u8], place: usize) -> Step
     requires { ⌜ Placed (now body) at place ⌝ }
     ensures { λ r. ⌜ ((e : Around) → Ran (now (body .entry)) e position3 at place (now (out .entry)) (λ _. end) (now (out .exit)) r) ⌝ }
 {

@@ -27,8 +27,8 @@ use Rattle.bits.specs.declared.Bits.the-variants.{Value}
 use Rattle.bits.specs.declared.Bits.the-variants as bits
 use Rattle.bits.proofs.Answers.{got-all, cut-all}
 use Rattle.bits.proofs.Splices.{splice-splice}
-use Rattle.runs.specs.declared.Step.{Step}
-use Rattle.runs.specs.declared.Step.the-variants.{Refused}
+use Rattle.write_runs.specs.declared.Step.{Step}
+use Rattle.write_runs.specs.declared.Step.the-variants.{Refused}
 use Rattle.write_runs.specs.Went.{Around, outside, inside, Went, Stopped, Ran}
 use Rattle.write_runs.proofs.WentLaws.{pushes-got, stopped}
 use Rattle.write_plans.specs.Appended.{Appended}

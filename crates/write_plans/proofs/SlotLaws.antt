@@ -18,9 +18,9 @@ use Rattle.format.proofs.DigitLaws.{length-bytes, length-digits}
 use Rattle.format.proofs.Good.{ledger-append}
 use Rattle.format.proofs.ReadLaws.{rest-at, place-at}
 use Rattle.bits.proofs.Splices.{splice-splice, splice-nil}
-use Rattle.runs.specs.Steps.{stored}
-use Rattle.runs.specs.declared.Step.{Step}
-use Rattle.runs.specs.declared.Step.the-variants.{Done, Refused}
+use Rattle.runs.specs.Stored.{stored}
+use Rattle.write_runs.specs.declared.Step.{Step}
+use Rattle.write_runs.specs.declared.Step.the-variants.{Done, Refused}
 use Rattle.runs.proofs.Stores.{stored-length, digits-fit}
 use Rattle.write_runs.specs.Went.{Around, pushes, Went, Stopped, Ran}
 use Rattle.write_runs.proofs.WentLaws.{Same, pushes-append, pushes-got, pushes-refused}
@@ -130,7 +130,7 @@ raw-done {body} {out} {out′} {e} {at} {place} {m} nm h q r x =
 module _ {body : List ℕ} {e : Around} where
   pub as-ragged : {at place : ℕ} {s : Syntax} {out out′ : List ℕ} {r : Step} → Ran body e s at place out (λ _. end) out′ r → Ragged body e s at place out out′ r
   unfolding readBody
-  as-ragged {r = Done a p v} x =
+  as-ragged {r = Done p a v} x =
       let w = x .to in
       record {
         to = record {
@@ -147,7 +147,7 @@ module _ {body : List ℕ} {e : Around} where
 
   -- the reading starts in the same way
   pub ragged-as : {at place : ℕ} {s s₁ : Syntax} {out out′ : List ℕ} {r : Step} → Same body e at s s₁ → Ragged body e s₁ at place out out′ r → Ragged body e s at place out out′ r
-  ragged-as {r = Done a p v} q x =
+  ragged-as {r = Done p a v} q x =
       let t = x .to in
       record { to = record { ts = t .ts; reads = q .reads ∙ t .reads; size = t .size; bytes = t .bytes; long = t .long; within = t .within; slack = t .slack } }
   ragged-as {r = Refused f} q x = record { to = record { reads = q .reads ∙ x .to .reads } }
@@ -156,7 +156,7 @@ module _ {body : List ℕ} {e : Around} where
   pub then-ragged : {at place at₁ place₁ : ℕ} {s s₁ : Syntax} {out out₁ out₂ : List ℕ} {r : Step} → Went body e s at place out s₁ at₁ place₁ out₁
       → place₁ + at + 2 ≤ place + at₁ → Ragged body e s₁ at₁ place₁ out₁ out₂ r → Ran body e s at place out (λ _. end) out₂ r
   unfolding readBody
-  then-ragged {at} {place} {at₁} {place₁} {s} {s₁} {out} {out₁} {out₂} {r = Done a p v} x g y =
+  then-ragged {at} {place} {at₁} {place₁} {s} {s₁} {out} {out₁} {out₂} {r = Done p a v} x g y =
       let t = y .to in
       let u = x .ts in
       let w = t .ts in

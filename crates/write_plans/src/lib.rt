@@ -9,7 +9,7 @@ ghost use Rattle.format.specs.Syntax.{Name, Syntax, end, slots, plan, raw, Edit
 ghost use Rattle.format.specs.Ledger.{countedBytes};
 ghost use Rattle.format.specs.Whole.{editionFor};
 ghost use Rattle.format.specs.Tables.{bitmap, mode, hopping, beamhopping};
-ghost use Rattle.runs.specs.Steps.{stored};
+ghost use Rattle.runs.specs.Stored.{stored};
 ghost use Rattle.write_runs.specs.Went.{Around, outside, inside, Placed, Ran};
 ghost use Rattle.write_plans.specs.Appended.{Appended};
 ghost use Rattle.write_plans.specs.Ragged.{Ragged};
@@ -19,9 +19,9 @@ use bits::read_u;
 use bits::refusal_of;
 use bits::value_at;
 use format::Refusal;
-use runs::Step;
 use runs::copy_bytes;
 use runs::marks;
+use write_runs::Step;
 use write_runs::put;
 use write_runs::write_needed;
 use write_runs::write_run;
@@ -38,7 +38,7 @@ fn lesser(a: usize, b: usize) -> usize
 
 // m bits of a body as bytes, the last one filled up with zeros, where there is room for all of them; whole bytes are
 // copied.
-fn write_bits(body: &[u8], at: usize, m: usize, out: &mut [u8], place: usize)
+fn write_bits(body: &[u8], at: u16, m: usize, out: &mut [u8], place: usize)
     requires { ⌜ (length (now body) ≤ 4096) × (at + m ≤ 8 * length (now body)) × (place ≤ 40000) ⌝ }
     ensures { λ _. ⌜ now (out .exit) ≡ stored (now (out .entry)) place (packedBits (now (body .entry)) at m) ⌝ }
 {
@@ -46,26 +46,29 @@ fn write_bits(body: &[u8], at: usize, m: usize, out: &mut [u8], place: usize)
     if out.len() < place + whole {
         return;
     }
-    if at % 8 == 0 && m % 8 == 0 {
-        copy_bytes(&body[at / 8..at / 8 + whole], &mut out[place..]);
+    let from = at as usize;
+    if from % 8 == 0 && m % 8 == 0 {
+        copy_bytes(&body[from / 8..from / 8 + whole], &mut out[place..]);
         return;
     }
+    let mut left = m;
     let mut i: usize = 0;
     while i < whole {
-        let width = lesser(m - 8 * i, 8);
-        let v = value_at(body, at + 8 * i, width);
+        let width = lesser(left, 8);
+        let v = value_at(body, (from + 8 * i) as u16, width);
         put(out, place + i, 1, v << (8 - width));
+        left -= width;
         i += 1;
     }
 }
 
 // Slots: so many single bits, and padding to the byte.
-fn write_slots(body: &[u8], at: usize, m: usize, out: &mut [u8], place: usize) -> Step
+fn write_slots(body: &[u8], at: u16, m: usize, out: &mut [u8], place: usize) -> Step
     requires { ⌜ Placed (now body) at place ⌝ }
     requires { ⌜ (at % 8 ≡ 0) × (m < 32768) ⌝ }
     ensures { λ r. ⌜ ((e : Around) (nm : Name) (s : Syntax) → Ran (now (body .entry)) e (slots nm 12 m s) at place (now (out .entry)) (λ _. s) (now (out .exit)) r) ⌝ }
 {
-    let have = 8 * body.len() - at;
+    let have = 8 * body.len() - at as usize;
     if have < m {
         return Step::Refused(Refusal {
             number: 12,
@@ -76,27 +79,27 @@ fn write_slots(body: &[u8], at: usize, m: usize, out: &mut [u8], place: usize) -
     write_bits(body, at, m, out, place);
     let whole = (m + 7) / 8;
     Step::Done {
-        at: at + 8 * whole,
+        at: (at as usize + 8 * whole) as u16,
         place: place + whole,
         last: 0,
     }
 }
 
 // The bits of a plan's raw bytes: those up to its end, or none where that is past the data.
-fn raw_bits(at: usize, stop: usize, n: usize) -> usize
+fn raw_bits(at: u16, stop: u16, n: usize) -> usize
     ensures { λ r. ⌜ r ≡ cond (leb stop n) (stop - at) 0 ⌝ }
 {
-    if n < stop {
+    if n < stop as usize {
         return 0;
     }
     if stop < at {
         return 0;
     }
-    stop - at
+    (stop - at) as usize
 }
 
 // Whole bytes of a body, given in bits, behind their count; the place behind them.
-fn write_bytes(body: &[u8], at: usize, m: usize, out: &mut [u8], place: usize) -> usize
+fn write_bytes(body: &[u8], at: u16, m: usize, out: &mut [u8], place: usize) -> usize
     requires { ⌜ (length (now body) ≤ 4096) × (at + m ≤ 8 * length (now body)) × (m % 8 ≡ 0) × (place ≤ 39000) ⌝ }
     ensures { λ r. ⌜ Appended (now (out .entry)) place (countedBytes (take m (drop at (bitsOf (now (body .entry)))))) (now (out .exit)) r ⌝ }
 {
@@ -106,7 +109,7 @@ fn write_bytes(body: &[u8], at: usize, m: usize, out: &mut [u8], place: usize) -
 }
 
 // Raw bytes, behind their count.
-fn write_raw(body: &[u8], at: usize, stop: usize, out: &mut [u8], place: usize) -> Step
+fn write_raw(body: &[u8], at: u16, stop: u16, out: &mut [u8], place: usize) -> Step
     requires { ⌜ Placed (now body) at place ⌝ }
     requires { ⌜ (at % 8 ≡ 0) × (stop % 8 ≡ 0) ⌝ }
     ensures { λ r. ⌜ ((ed : Edition) (nm : Name) → Ragged (now (body .entry)) (inside ed stop) (raw nm) at place (now (out .entry)) (now (out .exit)) r) ⌝ }
@@ -114,14 +117,14 @@ fn write_raw(body: &[u8], at: usize, stop: usize, out: &mut [u8], place: usize) 
     let m = raw_bits(at, stop, 8 * body.len());
     let p = write_bytes(body, at, m, out, place);
     Step::Done {
-        at: at + m,
+        at: (at as usize + m) as u16,
         place: p,
         last: 0,
     }
 }
 
 // Mode 1: a map of slots.
-fn write_bitmap(body: &[u8], at: usize, out: &mut [u8], place: usize) -> Step
+fn write_bitmap(body: &[u8], at: u16, out: &mut [u8], place: usize) -> Step
     requires { ⌜ Placed (now body) at place ⌝ }
     requires { ⌜ at % 8 ≡ 0 ⌝ }
     ensures { λ r. ⌜ ((e : Around) → Ran (now (body .entry)) e bitmap at place (now (out .entry)) (λ _. end) (now (out .exit)) r) ⌝ }
@@ -143,7 +146,7 @@ fn write_bitmap(body: &[u8], at: usize, out: &mut [u8], place: usize) -> Step
 }
 
 // The fields of a plan's mode, by its number.
-fn write_mode(body: &[u8], at: usize, stop: usize, kind: u64, out: &mut [u8], place: usize) -> Step
+fn write_mode(body: &[u8], at: u16, stop: u16, kind: u64, out: &mut [u8], place: usize) -> Step
     requires { ⌜ Placed (now body) at place ⌝ }
     requires { ⌜ (at % 8 ≡ 0) × (stop % 8 ≡ 0) ⌝ }
     ensures { λ r. ⌜ ((ed : Edition) → Ragged (now (body .entry)) (inside ed stop) (mode kind) at place (now (out .entry)) (now (out .exit)) r) ⌝ }
@@ -161,7 +164,7 @@ fn write_mode(body: &[u8], at: usize, stop: usize, kind: u64, out: &mut [u8], pl
 }
 
 // What stands within a plan that ends at a place.
-fn write_hopping(body: &[u8], at: usize, stop: usize, out: &mut [u8], place: usize) -> Step
+fn write_hopping(body: &[u8], at: u16, stop: u16, out: &mut [u8], place: usize) -> Step
     requires { ⌜ Placed (now body) at place ⌝ }
     requires { ⌜ (at % 8 ≡ 0) × (stop % 8 ≡ 0) ⌝ }
     ensures { λ r. ⌜ ((ed : Edition) → Ran (now (body .entry)) (inside ed stop) hopping at place (now (out .entry)) (λ _. end) (now (out .exit)) r) ⌝ }
@@ -195,26 +198,19 @@ fn write_length(version: u8, length: u64, out: &mut [u8], place: usize) -> usize
 }
 
 // A plan's filler, from the fields' end up to the next place, which the second edition has; the place behind it.
-fn write_filler(
-    body: &[u8],
-    at: usize,
-    next: usize,
-    version: u8,
-    out: &mut [u8],
-    place: usize,
-) -> usize
+fn write_filler(body: &[u8], at: u16, next: u16, version: u8, out: &mut [u8], place: usize) -> usize
     requires { ⌜ (length (now body) ≤ 4096) × (at ≤ next) × (next ≤ 8 * length (now body)) × (at % 8 ≡ 0) × (next % 8 ≡ 0) × (place ≤ 39000) ⌝ }
     ensures { λ r. ⌜ Appended (now (out .entry)) place (added (editionFor version) (countedBytes (take (next - at) (drop at (bitsOf (now (body .entry))))))) (now (out .exit)) r ⌝ }
 {
     if version == 2 {
-        return write_bytes(body, at, next - at, out, place);
+        return write_bytes(body, at, (next - at) as usize, out, place);
     }
     place
 }
 
 // A plan's length, what it is the length of, and the filler. The next place is the plan's end, or the data's if that
 // comes first.
-fn write_ended(body: &[u8], at: usize, version: u8, out: &mut [u8], place: usize) -> Step
+fn write_ended(body: &[u8], at: u16, version: u8, out: &mut [u8], place: usize) -> Step
     requires { ⌜ Placed (now body) at place ⌝ }
     requires { ⌜ (at + 12) % 8 ≡ 0 ⌝ }
     ensures { λ r. ⌜ Ran (now (body .entry)) (outside (editionFor version)) (plan "plan_length" hopping) at place (now (out .entry)) (λ _. end) (now (out .exit)) r ⌝ }
@@ -228,7 +224,7 @@ fn write_ended(body: &[u8], at: usize, version: u8, out: &mut [u8], place: usize
     else {
         return Step::Refused(refusal_of(r));
     };
-    let stop = inside + 8 * (bytes as usize);
+    let stop = (inside as usize + 8 * (bytes as usize)) as u16;
     let from = write_length(version, bytes, out, place);
     let hopping = write_hopping(body, inside, stop, out, from);
     let Step::Done {
@@ -242,11 +238,11 @@ fn write_ended(body: &[u8], at: usize, version: u8, out: &mut [u8], place: usize
     if stop < a {
         return Step::Refused(Refusal {
             number: 14,
-            need: a - stop,
+            need: (a - stop) as usize,
             have: 0,
         });
     }
-    let next = lesser(stop, have);
+    let next = lesser(stop as usize, have) as u16;
     let behind = write_filler(body, a, next, version, out, p);
     Step::Done {
         at: next,
@@ -256,7 +252,7 @@ fn write_ended(body: &[u8], at: usize, version: u8, out: &mut [u8], place: usize
 }
 
 // A plan, in the edition of a version.
-pub fn write_plan(body: &[u8], at: usize, version: u8, out: &mut [u8], place: usize) -> Step
+pub fn write_plan(body: &[u8], at: u16, version: u8, out: &mut [u8], place: usize) -> Step
     requires { ⌜ Placed (now body) at place ⌝ }
     requires { ⌜ at % 8 ≡ 0 ⌝ }
     ensures { λ r. ⌜ Ran (now (body .entry)) (outside (editionFor version)) beamhopping at place (now (out .entry)) (λ _. end) (now (out .exit)) r ⌝ }

@@ -12,8 +12,8 @@ use Rattle.format.specs.Refusals.{refuse}
 use Rattle.format.specs.Syntax.{Name, Syntax}
 use Rattle.bits.proofs.Values.{valueAt-none, valueAt-lt}
 use Rattle.runs.specs.Lines.{line, run, widthOf, sizeOf, extOf, markOk, marksOk, headName}
-use Rattle.runs.specs.declared.Step.{Step}
-use Rattle.runs.specs.declared.Step.the-variants.{Done, Refused}
+use Rattle.write_runs.specs.declared.Step.{Step}
+use Rattle.write_runs.specs.declared.Step.the-variants.{Done, Refused}
 use Rattle.runs.proofs.MarkLaws.{mark-facts, marks-at}
 use Rattle.runs.proofs.Stores.{digits-short}
 use Rattle.write_runs.specs.Went.{Around, Ran, Placed, Moved}
@@ -68,7 +68,7 @@ module _ {body marks : List ℕ} {at place : ℕ} where
         let back : here + w - w ≡ here = omega arith in
         let same : valueAt body (here + w - w) w ≡ v = ap (λ (p : ℕ). valueAt body p w) back in
         let one : i + 1 - 1 ≡ i = omega arith in
-        let y : (nm : Name) (e : Around) (k : Next) → Ran body e (line nm c k) here there [] k [] (Done (here + w) (there + z) v) =
+        let y : (nm : Name) (e : Around) (k : Next) → Ran body e (line nm c k) here there [] k [] (Done (there + z) (here + w) v) =
         λ nm e k. record { to = line-done nm c k m ew ez fits refl fine (sym (digits-short [] there z _ (omega (arith, f .one)))) } in
         record {
           along = λ nms. subst (λ (x : ℕ). Along (run nms 0 marks) (lines nms marks) body at place [] (here + w) (there + z) x (i + 1) []) (sym same)
@@ -96,12 +96,12 @@ module _ {body marks : List ℕ} {at place : ℕ} where
 
   -- all are passed
   pub pass-ends : {here there width i v : ℕ} → Passed body at marks place here there width i → i ≡ length marks → v ≡ valueAt body (here - width) width
-      → (e : Around) (nms : List Name) (k : Next) → Ran body e (run nms 0 marks k) at place [] k [] (Done here there v)
+      → (e : Around) (nms : List Name) (k : Next) → Ran body e (run nms 0 marks k) at place [] k [] (Done there here v)
   pass-ends {here} {there} {width} {i} {v} st z q e nms k =
-      subst (λ (x : ℕ). Ran body e (run nms 0 marks k) at place [] k [] (Done here there x)) (sym q)
+      subst (λ (x : ℕ). Ran body e (run nms 0 marks k) at place [] k [] (Done there here x)) (sym q)
       (record { to = ended (st .along nms) e k _ (lines-end nms marks _ i k z) })
 
-  pub pass-moved : {here there width i v : ℕ} → Passed body at marks place here there width i → i ≡ length marks → Moved at place marks (Done here there v)
+  pub pass-moved : {here there width i v : ℕ} → Passed body at marks place here there width i → i ≡ length marks → Moved at place marks (Done there here v)
   pass-moved {here} {there} {width} {i} st z = record { to = balance-end marks at place here there i z (st .balance) }
 
 -- with a buffer that is empty, nothing is stored

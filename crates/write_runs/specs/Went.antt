@@ -10,8 +10,8 @@ use Rattle.format.specs.Body.{readBody}
 use Rattle.format.specs.Ledger.{ledger}
 use Rattle.format.specs.declared.Refusal.{Refusal}
 use Rattle.runs.specs.Lines.{widthsOf, sizesOf}
-use Rattle.runs.specs.declared.Step.{Step}
-use Rattle.runs.specs.declared.Step.the-variants.{Done, Refused}
+use Rattle.write_runs.specs.declared.Step.{Step}
+use Rattle.write_runs.specs.declared.Step.the-variants.{Done, Refused}
 
 -- fields in front of what an answer has
 unfoldable pub pushes : List Field → Parse (List Field) → Parse (List Field)
@@ -53,7 +53,7 @@ pub record Stopped (body : List ℕ) (e : Around) (s : Syntax) (at : ℕ) (f : R
 
 -- what a step says: it came to the place at which k goes on from the last number, or s is refused
 abbrev pub RanTo : List ℕ → Around → Syntax → ℕ → ℕ → List ℕ → (ℕ → Syntax) → List ℕ → Step → Type 0
-RanTo body e s at place out k out′ (Done at′ place′ v) = Went body e s at place out (k v) at′ place′ out′
+RanTo body e s at place out k out′ (Done place′ at′ v) = Went body e s at place out (k v) at′ place′ out′
 RanTo body e s at place out k out′ (Refused f) = Stopped body e s at f
 
 pub record Ran (body : List ℕ) (e : Around) (s : Syntax) (at place : ℕ) (out : List ℕ) (k : ℕ → Syntax) (out′ : List ℕ) (r : Step) : Type 0 where
@@ -61,7 +61,7 @@ pub record Ran (body : List ℕ) (e : Around) (s : Syntax) (at place : ℕ) (out
 
 -- a step that is done went over the whole run
 abbrev pub MovedTo : ℕ → ℕ → List ℕ → Step → Type 0
-MovedTo at place cs (Done a p v) = (a ≡ at + widthsOf cs) × (p ≡ place + sizesOf cs)
+MovedTo at place cs (Done p a v) = (a ≡ at + widthsOf cs) × (p ≡ place + sizesOf cs)
 MovedTo at place cs (Refused f) = Unit {0}
 
 pub record Moved (at place : ℕ) (cs : List ℕ) (r : Step) : Type 0 where

@@ -11,9 +11,10 @@ ghost use Rattle.format.specs.Syntax.{Name, Syntax, need};
 ghost use Rattle.format.specs.Tables.{times};
 ghost use Rattle.bits.specs.Read.{Room};
 ghost use Rattle.runs.specs.Lines.{widthOf, sizeFor, markOk, marksOk, line, run, runOf};
-ghost use Rattle.runs.specs.Steps.{lastOf, stored};
-ghost use Rattle.runs.specs.declared.Step.the-variants.{Refused};
+ghost use Rattle.runs.specs.Stored.{stored};
+ghost use Rattle.write_runs.specs.Steps.{refusalIn, lastOf};
 ghost use Rattle.write_runs.specs.Went.{Around, Placed, Ran, Moved};
+ghost use Rattle.write_runs.specs.declared.Step.the-variants.{Refused};
 use bits::put_be;
 use bits::put_byte;
 use bits::put_pair;
@@ -21,11 +22,35 @@ use bits::put_quad;
 use bits::put_word;
 use bits::value_at;
 use format::Refusal;
-use runs::Step;
 use runs::shown_of;
 use runs::size_for;
 use runs::size_of;
 use runs::width_of;
+
+// Where a step came to: its place in the ledger, its place in the body that is read, in bits, and the last field's
+// number; or a refusal. In this order they lie beside a refusal's numbers, which costs the least.
+pub enum Step {
+    Done { place: usize, at: u16, last: u64 },
+    Refused(Refusal),
+}
+
+// The refusal of a step; zeros where there is none.
+pub fn step_refusal(step: Step) -> Refusal
+    ensures { λ f. ⌜ f ≡ refusalIn step ⌝ }
+{
+    match step {
+        Step::Done {
+            at: _,
+            place: _,
+            last: _,
+        } => Refusal {
+            number: 0,
+            need: 0,
+            have: 0,
+        },
+        Step::Refused(f) => f,
+    }
+}
 
 // Stores the k low bytes of v at a place, where there is room for all of them; a ledger's fields have 1, 2, 4 or 8.
 pub fn put(out: &mut [u8], place: usize, k: usize, v: u64)
@@ -70,7 +95,7 @@ fn damaged(ext: u64) -> Step
 }
 
 // The bytes in a ledger of a field that is there, as `size_for` has them; its number is read only where it may matter.
-fn size_at(body: &[u8], at: usize, mark: u8) -> usize
+fn size_at(body: &[u8], at: u16, mark: u8) -> usize
     requires { ⌜ Room (now body) at (widthOf mark) ⌝ }
     requires { ⌜ T (markOk mark) ⌝ }
     ensures { λ r. ⌜ r ≡ sizeFor mark (valueAt (now (body .entry)) at (widthOf mark)) ⌝ }
@@ -82,7 +107,7 @@ fn size_at(body: &[u8], at: usize, mark: u8) -> usize
 }
 
 // One field.
-fn write_line(body: &[u8], at: usize, mark: u8, out: &mut [u8], place: usize) -> Step
+fn write_line(body: &[u8], at: u16, mark: u8, out: &mut [u8], place: usize) -> Step
     requires { ⌜ Placed (now body) at place ⌝ }
     requires { ⌜ T (markOk mark) ⌝ }
     ensures { λ r. ⌜ ((e : Around) (nm : Name) (k : ℕ → Syntax) → Ran (now (body .entry)) e (line nm mark k) at place (now (out .entry)) k (now (out .exit)) r) ⌝ }
@@ -91,7 +116,7 @@ fn write_line(body: &[u8], at: usize, mark: u8, out: &mut [u8], place: usize) ->
 {
     let have = 8 * body.len();
     let width = width_of(mark);
-    let need = at + width;
+    let need = at as usize + width;
     if have < need {
         return Step::Refused(Refusal {
             number: 1,
@@ -106,14 +131,14 @@ fn write_line(body: &[u8], at: usize, mark: u8, out: &mut [u8], place: usize) ->
     }
     put(out, place, size, shown_of(mark, v));
     Step::Done {
-        at: need,
+        at: need as u16,
         place: place + size,
         last: v,
     }
 }
 
 // A run of fields that are not stored: only the last one's number is taken, and those that are tested.
-fn pass_run(body: &[u8], at: usize, marks: &[u8], place: usize) -> Step
+fn pass_run(body: &[u8], at: u16, marks: &[u8], place: usize) -> Step
     requires { ⌜ Placed (now body) at place ⌝ }
     requires { ⌜ T (marksOk (now marks)) ⌝ }
     ensures { λ r. ⌜ ((e : Around) (nms : List Name) (k : ℕ → Syntax) → Ran (now (body .entry)) e (run nms 0 (now (marks .entry)) k) at place [] k [] r) ⌝ }
@@ -128,10 +153,11 @@ fn pass_run(body: &[u8], at: usize, marks: &[u8], place: usize) -> Step
     while i < marks.len() {
         let mark = marks[i];
         width = width_of(mark);
-        if have < here + width {
+        let need = here as usize + width;
+        if have < need {
             return Step::Refused(Refusal {
                 number: 1,
-                need: here + width,
+                need,
                 have,
             });
         }
@@ -139,19 +165,19 @@ fn pass_run(body: &[u8], at: usize, marks: &[u8], place: usize) -> Step
         if size == 0 {
             return damaged(value_at(body, here, width));
         }
-        here += width;
+        here = need as u16;
         there += size;
         i += 1;
     }
     Step::Done {
         at: here,
         place: there,
-        last: value_at(body, here - width, width),
+        last: value_at(body, (here as usize - width) as u16, width),
     }
 }
 
 // A run of fields that are stored one by one.
-fn store_run(body: &[u8], at: usize, marks: &[u8], out: &mut [u8], place: usize) -> Step
+fn store_run(body: &[u8], at: u16, marks: &[u8], out: &mut [u8], place: usize) -> Step
     requires { ⌜ Placed (now body) at place ⌝ }
     requires { ⌜ T (marksOk (now marks)) ⌝ }
     ensures { λ r. ⌜ ((e : Around) (nms : List Name) (k : ℕ → Syntax) → Ran (now (body .entry)) e (run nms 0 (now (marks .entry)) k) at place (now (out .entry)) k (now (out .exit)) r) ⌝ }
@@ -180,7 +206,7 @@ fn store_run(body: &[u8], at: usize, marks: &[u8], out: &mut [u8], place: usize)
 }
 
 // A run of fields.
-pub fn write_run(body: &[u8], at: usize, marks: &[u8], out: &mut [u8], place: usize) -> Step
+pub fn write_run(body: &[u8], at: u16, marks: &[u8], out: &mut [u8], place: usize) -> Step
     requires { ⌜ Placed (now body) at place ⌝ }
     requires { ⌜ T (marksOk (now marks)) ⌝ }
     ensures { λ r. ⌜ ((e : Around) (nms : List Name) (k : ℕ → Syntax) → Ran (now (body .entry)) e (run nms 0 (now (marks .entry)) k) at place (now (out .entry)) k (now (out .exit)) r) ⌝ }
@@ -196,7 +222,7 @@ pub fn write_run(body: &[u8], at: usize, marks: &[u8], out: &mut [u8], place: us
 // A run of fields, for which so many bits must remain.
 pub fn write_needed(
     body: &[u8],
-    at: usize,
+    at: u16,
     number: u8,
     bits: usize,
     marks: &[u8],
@@ -209,7 +235,7 @@ pub fn write_needed(
     ensures { λ r. ⌜ lastOf r < 2 ^ widthOf (getD (now (marks .entry)) (length (now (marks .entry)) - 1) 0) ⌝ }
     ensures { λ r. ⌜ Moved at place (now (marks .entry)) r ⌝ }
 {
-    let have = 8 * body.len() - at;
+    let have = 8 * body.len() - at as usize;
     if have < bits {
         return Step::Refused(Refusal {
             number,
@@ -223,7 +249,7 @@ pub fn write_needed(
 // The same run so many times.
 fn write_rounds(
     body: &[u8],
-    at: usize,
+    at: u16,
     marks: &[u8],
     count: usize,
     out: &mut [u8],
@@ -255,7 +281,7 @@ fn write_rounds(
 // The same run count times, for which so many bits each must remain.
 pub fn write_counted(
     body: &[u8],
-    at: usize,
+    at: u16,
     number: u8,
     bits: usize,
     marks: &[u8],
@@ -268,7 +294,7 @@ pub fn write_counted(
     requires { ⌜ (count < 65536) × (bits < 65536) ⌝ }
     ensures { λ r. ⌜ ((e : Around) (nms : List Name) (s : Syntax) → Ran (now (body .entry)) e (need number (count * bits) (times count (runOf nms (now (marks .entry))) s)) at place (now (out .entry)) (λ _. s) (now (out .exit)) r) ⌝ }
 {
-    let have = 8 * body.len() - at;
+    let have = 8 * body.len() - at as usize;
     let n = count as usize;
     let need = n * bits;
     if have < need {

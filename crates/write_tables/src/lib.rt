@@ -5,14 +5,14 @@ ghost use Rattle.format.specs.Tables.{position, fragment, association};
 ghost use Rattle.write_runs.specs.Went.{Around, Placed, Ran};
 ghost use Rattle.write_tables.specs.Lists.{lists};
 use format::Refusal;
-use runs::Step;
 use runs::marks;
+use write_runs::Step;
 use write_runs::write_counted;
 use write_runs::write_needed;
 use write_runs::write_run;
 
 // Id 0: a satellite.
-pub fn write_position(body: &[u8], at: usize, out: &mut [u8], place: usize) -> Step
+pub fn write_position(body: &[u8], at: u16, out: &mut [u8], place: usize) -> Step
     requires { ⌜ Placed (now body) at place ⌝ }
     ensures { λ r. ⌜ ((e : Around) → Ran (now (body .entry)) e position at place (now (out .entry)) (λ _. end) (now (out .exit)) r) ⌝ }
 {
@@ -32,7 +32,7 @@ pub fn write_position(body: &[u8], at: usize, out: &mut [u8], place: usize) -> S
 }
 
 // Id 1: the three lists, behind the first one's count.
-fn write_lists(body: &[u8], at: usize, count: u64, out: &mut [u8], place: usize) -> Step
+fn write_lists(body: &[u8], at: u16, count: u64, out: &mut [u8], place: usize) -> Step
     requires { ⌜ Placed (now body) at place ⌝ }
     requires { ⌜ count < 1024 ⌝ }
     ensures { λ r. ⌜ ((e : Around) → Ran (now (body .entry)) e (lists count) at place (now (out .entry)) (λ _. end) (now (out .exit)) r) ⌝ }
@@ -67,7 +67,7 @@ fn write_lists(body: &[u8], at: usize, count: u64, out: &mut [u8], place: usize)
 }
 
 // Id 1: a cell fragment.
-pub fn write_fragment(body: &[u8], at: usize, out: &mut [u8], place: usize) -> Step
+pub fn write_fragment(body: &[u8], at: u16, out: &mut [u8], place: usize) -> Step
     requires { ⌜ Placed (now body) at place ⌝ }
     ensures { λ r. ⌜ ((e : Around) → Ran (now (body .entry)) e fragment at place (now (out .entry)) (λ _. end) (now (out .exit)) r) ⌝ }
 {
@@ -99,11 +99,11 @@ pub fn write_fragment(body: &[u8], at: usize, out: &mut [u8], place: usize) -> S
 }
 
 // Id 2: a time association.
-pub fn write_association(body: &[u8], at: usize, out: &mut [u8], place: usize) -> Step
+pub fn write_association(body: &[u8], at: u16, out: &mut [u8], place: usize) -> Step
     requires { ⌜ Placed (now body) at place ⌝ }
     ensures { λ r. ⌜ ((e : Around) → Ran (now (body .entry)) e association at place (now (out .entry)) (λ _. end) (now (out .exit)) r) ⌝ }
 {
-    let have = 8 * body.len() - at;
+    let have = 8 * body.len() - at as usize;
     if have < 1 {
         return Step::Refused(Refusal {
             number: 2,

@@ -33,6 +33,9 @@ loop-holds c =
     (byte-entry ((c .before .before .args .table-id)) l) ((c .before .before .args .s .now)) (c .before .before .args .start)
     (c .before .before .args .index) (c .before .before .pre .0 .1) (c .before .before .pre .0 .2)
 
+cast-loop : tie.Need-cast-loop Inv-loop μ-loop
+cast-loop c = omega (arith, c .loop .inv ((c .before .before .before .pre .1)) .within)
+
 sub-loop : tie.Need-sub-loop Inv-loop μ-loop
 sub-loop c = omega (arith, c .loop .inv ((c .before .before .before .pre .1)) .within)
 
@@ -132,6 +135,7 @@ seek-entries-spec =
     mul-all
     least-bits-requires
     loop-holds
+    cast-loop
     sub-loop
     entry-end-requires
     enum-known-end

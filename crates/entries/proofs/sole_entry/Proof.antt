@@ -7,6 +7,7 @@ use Rattle.format.specs.Tables.{association}
 use Rattle.format.specs.At.{endOf}
 use Rattle.format.specs.declared.EntryEnd.{EntryEnd}
 use Rattle.format.specs.declared.EntryEnd.the-variants as end
+use Rattle.bits.proofs.Places.{within-fits}
 use Rattle.association.specs.Association.{associationOf, associationAt, refusalOf}
 use Rattle.association.specs.declared.TimeAssociationAnswer.{TimeAssociationAnswer}
 use Rattle.association.specs.declared.TimeAssociationAnswer.the-variants.{Entry, Refused}
@@ -21,6 +22,9 @@ after (Refused f) = end.Refused f
 
 mul-end : tie.Need-mul-end
 mul-end c = omega (arith, c .before .pre .0)
+
+cast-end : tie.Need-cast-end
+cast-end c = within-fits (c .before .args .s .now) (c .before .pre .0) (omega arith)
 
 returns : tie.Need-returns
 returns c = (
@@ -74,4 +78,13 @@ returns-3 c =
 pub sole-entry-spec : {M : Type 1} → statement M
 sole-entry-spec =
     tie.close
-    (tie.spec mul-end returns read-association-requires enum-told enum-told-2 association-refusal-requires returns-2 returns-3)
+    (tie.spec
+    mul-end
+    cast-end
+    returns
+    read-association-requires
+    enum-told
+    enum-told-2
+    association-refusal-requires
+    returns-2
+    returns-3)

@@ -27,6 +27,9 @@ loop-holds c =
     let pre = c .before .before .before .pre in
     (kept-first _ _ _ _ (pre .0 .1) (pre .0 .2) (pre .1 .1), refl)
 
+cast-loop : tie.Need-cast-loop Inv-loop μ-loop
+cast-loop c = omega (arith, c .loop .inv .0 .within)
+
 sub-loop : tie.Need-sub-loop Inv-loop μ-loop
 sub-loop c = omega (arith, c .loop .inv .0 .within)
 
@@ -120,6 +123,7 @@ list-ids-spec =
     mul-all
     least-bits-requires
     loop-holds
+    cast-loop
     sub-loop
     entry-end-requires
     enum-known-end

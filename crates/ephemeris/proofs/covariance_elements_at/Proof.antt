@@ -7,6 +7,7 @@ use native.Mathlib.Omega.{arith}
 use lib.ListN.{replicate}
 use denote.Ref.{now}
 use Rattle.bits.proofs.Answers.{value-below}
+use Rattle.bits.proofs.Places.{within-fits}
 use Rattle.ephemeris.specs.Ephemeris.{wordsAt}
 use Rattle.ephemeris.proofs.Words.{put-word}
 use Rattle.ephemeris.proofs.covariance_elements_at.Statement.{statement}
@@ -27,6 +28,9 @@ mul-value-at c = omega arith
 
 add-value-at : tie.Need-add-value-at Inv-loop μ-loop
 add-value-at c = omega arith
+
+cast-value-at : tie.Need-cast-value-at Inv-loop μ-loop
+cast-value-at c = within-fits (now (c .before .before .before .args .s)) (omega arith) (omega arith)
 
 value-at-requires : tie.Need-value-at-requires Inv-loop μ-loop
 value-at-requires c κs = omega arith
@@ -67,6 +71,7 @@ covariance-elements-at-spec =
     loop-holds
     mul-value-at
     add-value-at
+    cast-value-at
     value-at-requires
     cast-v
     mul-v

@@ -4,6 +4,7 @@ use Prim.Native.Nat.{_*_, _≤_}
 use mathlib.Core.Path.{refl}
 use native.Mathlib.Omega.{arith}
 use borrow.Author.Needs.{needs}
+use Rattle.bits.proofs.Places.{within-fits}
 use Rattle.ephemeris.proofs.Indexed.{width-bytes, bytes-few, bytes-before, past-count, too-long, outside, inside}
 use Rattle.ephemeris.proofs.ephemeris_data_at.Statement.{statement}
 use Rattle.ephemeris.proofs.ephemeris_data_at.Tie as tie
@@ -60,6 +61,11 @@ returns-5 c =
 mul-entry-at : tie.Need-mul-entry-at
 mul-entry-at c = search needs
 
+cast-entry-at : tie.Need-cast-entry-at
+cast-entry-at c =
+    let k = c .before .before in
+    within-fits (k .before .before .before .before .before .before .args .body .now) (omega (arith, k .before .before .if2 .left)) (omega arith)
+
 entry-at-requires : tie.Need-entry-at-requires
 entry-at-requires c κs =
     let k = c .before .before in
@@ -91,5 +97,6 @@ ephemeris-data-at-spec =
     add-if5
     returns-5
     mul-entry-at
+    cast-entry-at
     entry-at-requires
     returns-6)

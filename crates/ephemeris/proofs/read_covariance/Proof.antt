@@ -34,8 +34,8 @@ returns-2 c =
 covariance-at-requires : tie.Need-covariance-at-requires
 covariance-at-requires c κs = search needs
 
-add-t8 : tie.Need-add-t8
-add-t8 c = search needs
+add-t13 : tie.Need-add-t13
+add-t13 c = search needs
 
 returns-3 : tie.Need-returns-3
 unfolding covarianceAt
@@ -46,4 +46,5 @@ returns-3 c =
 
 pub read-covariance-spec : {M : Type 1} → statement M
 read-covariance-spec =
-    tie.close (tie.spec returns mul-have sub-have returns-2 covariance-at-requires add-t8 returns-3)
+    tie.close
+    (tie.spec returns mul-have sub-have returns-2 covariance-at-requires add-t13 returns-3)

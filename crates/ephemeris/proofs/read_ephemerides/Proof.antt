@@ -5,6 +5,7 @@ use native.Mathlib.Omega.{arith}
 use borrow.Author.Needs.{needs}
 use Rattle.bits.specs.Read.{refusalOf}
 use Rattle.bits.proofs.Answers.{Got, got-all, cut-all, got-lt}
+use Rattle.bits.proofs.Places.{within-fits}
 use Rattle.passing.proofs.Passing.{stopped-answer}
 use Rattle.parts.specs.declared.PartAnswer.the-variants.{Read, Refused}
 use Rattle.ephemeris.specs.Ephemeris.{ephemeridesAt}
@@ -48,14 +49,17 @@ mul-need c =
     let l = got-lt _ _ 16 (k .before .r .given .1) (k .before .before .before .read-u .ensures) in
     record { fits = omega (arith, entries-small (k .before .before .before .before .before .args .accel) l (c .entry-bits .ensures)) }
 
+cast-from : tie.Need-cast-from
+cast-from c = search needs
+
 mul-have : tie.Need-mul-have
 mul-have c = search needs
 
 sub-have : tie.Need-sub-have
 sub-have c = omega (arith, counted (c .before) .there, counted (c .before) .next)
 
-rem-t16 : tie.Need-rem-t16
-rem-t16 c = omega (arith, c .before .entry-bits .ensures, bits-some (c .before .before .before .before .before .before .before .args .accel) .0)
+rem-t17 : tie.Need-rem-t17
+rem-t17 c = omega (arith, c .before .entry-bits .ensures, bits-some (c .before .before .before .before .before .before .before .args .accel) .0)
 
 returns-2 : tie.Need-returns-2
 returns-2 c =
@@ -65,8 +69,14 @@ returns-2 c =
     short-answer (a .s .now) (a .accel) (a .at) (g .value) (g .next) (c .before .entry-bits .ensures) (omega (arith, g .there, g .next))
     (c .if1 .taken)
 
-add-t13 : tie.Need-add-t13
-add-t13 c = search needs
+add-t14 : tie.Need-add-t14
+add-t14 c = search needs
+
+cast-t19 : tie.Need-cast-t19
+cast-t19 c =
+    let s = c .before .before .before .before .before .before .before in
+    let g = counted (c .before .before) in
+    within-fits (s .args .s .now) (s .pre .short) (omega arith)
 
 returns-3 : tie.Need-returns-3
 returns-3 c =
@@ -87,9 +97,11 @@ read-ephemerides-spec =
     returns
     entry-bits-requires
     mul-need
+    cast-from
     mul-have
     sub-have
-    rem-t16
+    rem-t17
     returns-2
-    add-t13
+    add-t14
+    cast-t19
     returns-3)

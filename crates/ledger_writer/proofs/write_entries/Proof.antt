@@ -31,6 +31,9 @@ add-there c =
 loop-holds : tie.Need-loop-holds Inv-loop μ-loop
 loop-holds c = begin (c .before .before .before .pre .0) (c .before .before .before .pre .1)
 
+cast-loop : tie.Need-cast-loop Inv-loop μ-loop
+cast-loop c = omega (arith, c .loop .inv .placed .within, c .loop .inv .placed .short)
+
 sub-loop : tie.Need-sub-loop Inv-loop μ-loop
 sub-loop c = omega (arith, c .loop .inv .placed .within)
 
@@ -123,6 +126,7 @@ write-entries-spec =
     least-of-requires
     add-there
     loop-holds
+    cast-loop
     sub-loop
     within-requires
     sub-write-entry

@@ -34,8 +34,8 @@ returns-2 c =
 usable-at-requires : tie.Need-usable-at-requires
 usable-at-requires c κs = search needs
 
-add-t9 : tie.Need-add-t9
-add-t9 c = search needs
+add-t14 : tie.Need-add-t14
+add-t14 c = search needs
 
 returns-3 : tie.Need-returns-3
 unfolding usableAt
@@ -46,4 +46,4 @@ returns-3 c =
 
 pub read-usable-spec : {M : Type 1} → statement M
 read-usable-spec =
-    tie.close (tie.spec returns mul-have sub-have returns-2 usable-at-requires add-t9 returns-3)
+    tie.close (tie.spec returns mul-have sub-have returns-2 usable-at-requires add-t14 returns-3)

@@ -4,6 +4,7 @@ use native.Mathlib.Omega.{arith}
 use native.Mathlib.Nat.{mul-le-mul-left}
 use Rattle.format.specs.ByName.{firstBy}
 use Rattle.bits.proofs.Answers.{next-place, got-lt}
+use Rattle.bits.proofs.Places.{within-fits}
 use Rattle.bits.proofs.Reading.{reading}
 use Rattle.parts.specs.Parts.{partAt}
 use borrow.Author.Needs.{needs}
@@ -32,6 +33,9 @@ mul-need c =
     let v = got-lt _ _ 10 (c .before .r .given .1) (c .before .before .before .read-u .ensures) in
     record { fits = omega (arith, v, mul-le-mul-left (c .before .r .given .0 .0) (s .pre .1)) }
 
+cast-from : tie.Need-cast-from
+cast-from c = search needs
+
 mul-have : tie.Need-mul-have
 mul-have c = search needs
 
@@ -47,6 +51,12 @@ returns-2 c = search reading depth 20
 add-next : tie.Need-add-next
 add-next c = search needs
 
+cast-next : tie.Need-cast-next
+cast-next c =
+    let s = c .before .before .before .before .before .before in
+    let p = next-place (s .args .at) 10 (c .before .before .r .given .1) (c .before .before .before .before .read-u .ensures) (s .pre .0 .short) in
+    within-fits (s .args .s .now) (p .short) (omega arith)
+
 returns-3 : tie.Need-returns-3
 unfolding partAt firstBy
 returns-3 c = search reading depth 20
@@ -61,8 +71,10 @@ read-part-spec =
     refusal-of-requires
     returns
     mul-need
+    cast-from
     mul-have
     sub-have
     returns-2
     add-next
+    cast-next
     returns-3)

@@ -6,6 +6,7 @@ use native.Mathlib.Omega.{arith}
 use borrow.Author.Needs.{needs}
 use Rattle.format.specs.Tables.{beamhopping}
 use Rattle.bits.proofs.Answers.{next-place, got-fits}
+use Rattle.bits.proofs.Places.{within-fits, end-fits}
 use Rattle.bits.proofs.Reading.{reading}
 use Rattle.plan.specs.Plan.{planAt}
 use Rattle.plan.proofs.Fields.{Head, head-of, cut-fields, got-fields}
@@ -76,20 +77,26 @@ returns-3 : tie.Need-returns-3
 unfolding planAt beamhopping
 returns-3 c = search reading depth 20
 
+cast-end : tie.Need-cast-end
+cast-end c = search needs
+
 mul-end : tie.Need-mul-end
 mul-end c = omega (arith, head c .small)
 
 add-end : tie.Need-add-end
 add-end c = omega (arith, head c .small, head c .place)
 
-cast-t22 : tie.Need-cast-t22
-cast-t22 c = search (got-fits, tt)
-
-cast-t23 : tie.Need-cast-t23
-cast-t23 c = search (got-fits, tt)
+cast-end-2 : tie.Need-cast-end-2
+cast-end-2 c = end-fits _ (head c .place) (head c .small)
 
 cast-t24 : tie.Need-cast-t24
 cast-t24 c = search (got-fits, tt)
+
+cast-t25 : tie.Need-cast-t25
+cast-t25 c = search (got-fits, tt)
+
+cast-closed : tie.Need-cast-closed
+cast-closed c = search (got-fits, tt)
 
 read-fields-requires : tie.Need-read-fields-requires
 read-fields-requires c κs =
@@ -113,6 +120,12 @@ returns-4 c =
 
 mul-closed : tie.Need-mul-closed
 mul-closed c = omega (arith, head (c .before .before .before .before) .place)
+
+cast-closed-2 : tie.Need-cast-closed-2
+cast-closed-2 c =
+    let k = c .before .before .before .before in
+    let s = k .before .before .before .before .before .before .before .before .before .before .before .before .before in
+    within-fits (s .args .s .now) (head k .place .short) (omega arith)
 
 closed-requires : tie.Need-closed-requires
 closed-requires c κs = search needs
@@ -142,16 +155,19 @@ read-plan-spec =
     enum-told-3
     refusal-of-requires-3
     returns-3
+    cast-end
     mul-end
     add-end
-    cast-t22
-    cast-t23
+    cast-end-2
     cast-t24
+    cast-t25
+    cast-closed
     read-fields-requires
     enum-known-p
     enum-told-4
     plan-refusal-requires
     returns-4
     mul-closed
+    cast-closed-2
     closed-requires
     returns-5)

@@ -3,6 +3,7 @@
 use native.Mathlib.Omega.{arith}
 use borrow.Author.Needs.{needs}
 use Rattle.bits.proofs.Answers.{value-below, value-fits}
+use Rattle.bits.proofs.Places.{within-fits}
 use Rattle.plan_modes.proofs.Bitmap.{bitmap-no, bitmap-there}
 use Rattle.plan_modes.proofs.bitmap_at.Statement.{statement}
 use Rattle.plan_modes.proofs.bitmap_at.Tie as tie
@@ -40,6 +41,9 @@ cast-slot c = search (value-fits, tt)
 add-next : tie.Need-add-next
 add-next c = search needs
 
+cast-from : tie.Need-cast-from
+cast-from c = search needs
+
 mul-have : tie.Need-mul-have
 mul-have c = search needs
 
@@ -57,14 +61,19 @@ add-length c = search needs
 slots-on-requires : tie.Need-slots-on-requires
 slots-on-requires c κs = omega (arith, value-below _ _ 15 (c .before .before .before .value-at2 .ensures))
 
-cast-t17 : tie.Need-cast-t17
-cast-t17 c = search (value-fits, tt)
+cast-t14 : tie.Need-cast-t14
+cast-t14 c = search (value-fits, tt)
 
-mul-t14 : tie.Need-mul-t14
-mul-t14 c = search needs
+mul-t15 : tie.Need-mul-t15
+mul-t15 c = search needs
 
-add-t13 : tie.Need-add-t13
-add-t13 c = search needs
+add-t16 : tie.Need-add-t16
+add-t16 c = search needs
+
+cast-t21 : tie.Need-cast-t21
+cast-t21 c =
+    let s = c .before .before .before .before .before .before .before in
+    within-fits (s .args .s .now) (s .pre .0 .short) (omega arith)
 
 returns-2 : tie.Need-returns-2
 returns-2 c =
@@ -89,12 +98,14 @@ bitmap-at-spec =
     value-at-requires-4
     cast-slot
     add-next
+    cast-from
     mul-have
     sub-have
     returns
     add-length
     slots-on-requires
-    cast-t17
-    mul-t14
-    add-t13
+    cast-t14
+    mul-t15
+    add-t16
+    cast-t21
     returns-2)

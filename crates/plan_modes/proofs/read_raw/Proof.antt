@@ -18,8 +18,12 @@ returns-2 c = let a = c .before .before .args in raw-before (a .s .now) (a .end)
 sub-length : tie.Need-sub-length
 sub-length c = search needs
 
+cast-length : tie.Need-cast-length
+cast-length c = search needs
+
 returns-3 : tie.Need-returns-3
 returns-3 c = let a = c .before .before .args in raw-there (a .s .now) (a .end) (a .at) (omega arith) (omega arith) (omega arith)
 
 pub read-raw-spec : {M : Type 1} → statement M
-read-raw-spec = tie.close (tie.spec mul-if1 returns returns-2 sub-length returns-3)
+read-raw-spec =
+    tie.close (tie.spec mul-if1 returns returns-2 sub-length cast-length returns-3)

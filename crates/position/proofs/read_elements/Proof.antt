@@ -19,11 +19,12 @@ returns c = search reading
 elements-at-requires : tie.Need-elements-at-requires
 elements-at-requires c κs = search needs
 
-add-t4 : tie.Need-add-t4
-add-t4 c = search needs
+add-t10 : tie.Need-add-t10
+add-t10 c = search needs
 
 returns-2 : tie.Need-returns-2
 returns-2 c = search needs
 
 pub read-elements-spec : {M : Type 1} → statement M
-read-elements-spec = tie.close (tie.spec mul-have sub-have returns elements-at-requires add-t4 returns-2)
+read-elements-spec =
+    tie.close (tie.spec mul-have sub-have returns elements-at-requires add-t10 returns-2)

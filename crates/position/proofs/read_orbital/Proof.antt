@@ -27,8 +27,8 @@ returns c = search reading
 value-at-requires : tie.Need-value-at-requires
 value-at-requires c κs = search needs
 
-cast-t10 : tie.Need-cast-t10
-cast-t10 c = search value-fits
+cast-t11 : tie.Need-cast-t11
+cast-t11 c = search value-fits
 
 add-value-at : tie.Need-add-value-at
 add-value-at c = search needs
@@ -42,11 +42,11 @@ add-value-at-2 c = search needs
 value-at-requires-3 : tie.Need-value-at-requires-3
 value-at-requires-3 c κs = search needs
 
-cast-t13 : tie.Need-cast-t13
-cast-t13 c = search value-fits
+cast-t16 : tie.Need-cast-t16
+cast-t16 c = search value-fits
 
-add-t5 : tie.Need-add-t5
-add-t5 c = search needs
+add-t11 : tie.Need-add-t11
+add-t11 c = search needs
 
 returns-2 : tie.Need-returns-2
 unfolding firstBy
@@ -63,11 +63,11 @@ read-orbital-spec =
     sub-have
     returns
     value-at-requires
-    cast-t10
+    cast-t11
     add-value-at
     value-at-requires-2
     add-value-at-2
     value-at-requires-3
-    cast-t13
-    add-t5
+    cast-t16
+    add-t11
     returns-2)

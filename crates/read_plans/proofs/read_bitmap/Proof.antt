@@ -6,6 +6,7 @@ use Rattle.format.specs.Syntax.{end, slots}
 use Rattle.runs.specs.Lines.{signOf, widthOf, run}
 use Rattle.read_runs.proofs.CameLaws.{done, stops, starts, then, go-on, need-any}
 use Rattle.read_runs.proofs.Runs.{placed-on}
+use Rattle.read_runs.specs.Steps.{lastOf}
 use Rattle.write_runs.proofs.Runs.{last-of}
 use Rattle.write_plans.proofs.Names.{sizeNames, slotNames, afterSize}
 use Rattle.read_runs.specs.Came.{someWay}
@@ -71,7 +72,7 @@ read-slots-requires c κs =
           (go-on (done (size .given .1) (read-run .ensures .0 someWay sizeNames afterSize))
           (done (c .before .before .current .given .1)
           (read-run2 .ensures .0 someWay slotNames (λ _. slots "slot_transmission_on" 12 (size .given .0 .1 .1 .0) end)))),
-      omega (arith, last-of (size .given .1) (read-run .ensures .1)),
+      omega (arith, last-of lastOf (size .given .1) (read-run .ensures .1)),
     )
 
 same-length-3 : tie.Need-same-length-3

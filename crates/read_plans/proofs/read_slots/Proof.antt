@@ -30,6 +30,9 @@ part-packed-start c = search needs
 part-packed-end : tie.Need-part-packed-end
 part-packed-end c = search needs
 
+cast-value-at : tie.Need-cast-value-at
+cast-value-at c = search needs
+
 mul-value-at : tie.Need-mul-value-at
 mul-value-at c = search needs
 
@@ -77,6 +80,7 @@ read-slots-spec =
     sub-packed
     part-packed-start
     part-packed-end
+    cast-value-at
     mul-value-at
     sub-value-at
     value-at-requires

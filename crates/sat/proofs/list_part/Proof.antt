@@ -8,8 +8,11 @@ use Rattle.sat.proofs.list_part.Tie as tie
 sub-bits : tie.Need-sub-bits
 sub-bits c = omega arith
 
+cast-bits : tie.Need-cast-bits
+cast-bits c = omega arith
+
 returns : tie.Need-returns
 returns c = refl
 
 pub list-part-spec : {M : Type 1} → statement M
-list-part-spec = tie.close (tie.spec sub-bits returns)
+list-part-spec = tie.close (tie.spec sub-bits cast-bits returns)

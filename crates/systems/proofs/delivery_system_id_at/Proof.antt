@@ -9,6 +9,7 @@ use borrow.Author.Needs.{needs}
 use Rattle.format.specs.ByName.{firstBy}
 use Rattle.bits.specs.Read.{Room}
 use Rattle.bits.proofs.Answers.{value-fits}
+use Rattle.bits.proofs.Places.{start-fits}
 use Rattle.systems.proofs.Elements.{Within, holds, no-element, element, element-room, id-alone}
 use Rattle.systems.proofs.delivery_system_id_at.Statement.{statement}
 use Rattle.systems.proofs.delivery_system_id_at.Tie as tie
@@ -35,11 +36,14 @@ add-at c = omega (arith, known (c .before) .fits, known (c .before) .short)
 mul-at-2 : tie.Need-mul-at-2
 mul-at-2 c = omega (arith, known (c .before) .fits, known (c .before) .short)
 
+cast-at : tie.Need-cast-at
+cast-at c = start-fits (room (c .before))
+
 value-at-requires : tie.Need-value-at-requires
 value-at-requires c κs = (room (c .before), omega arith)
 
-cast-t10 : tie.Need-cast-t10
-cast-t10 c = search value-fits
+cast-t11 : tie.Need-cast-t11
+cast-t11 c = search value-fits
 
 returns-2 : tie.Need-returns-2
 unfolding firstBy
@@ -57,6 +61,7 @@ delivery-system-id-at-spec =
     mul-at
     add-at
     mul-at-2
+    cast-at
     value-at-requires
-    cast-t10
+    cast-t11
     returns-2)

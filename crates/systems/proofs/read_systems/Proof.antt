@@ -5,6 +5,7 @@ use native.Mathlib.Omega.{arith}
 use denote.Ref.{now}
 use borrow.Author.Needs.{needs}
 use Rattle.bits.specs.Read.{Room}
+use Rattle.bits.proofs.Places.{start-fits}
 use Rattle.parts.proofs.Lists.{Listed, listed}
 use Rattle.systems.proofs.Lists.{Tested, begin, turn, stop, done, refused-alone, tested-alone}
 use Rattle.systems.proofs.read_systems.Statement.{statement}
@@ -57,6 +58,9 @@ add-clock-within-2 c = omega (arith, room c .fits, room c .short)
 add-clock-within-3 : tie.Need-add-clock-within-3 Inv-loop μ-loop
 add-clock-within-3 c = omega (arith, room c .fits, room c .short)
 
+cast-clock-within : tie.Need-cast-clock-within Inv-loop μ-loop
+cast-clock-within c = start-fits (room c)
+
 clock-within-requires : tie.Need-clock-within-requires Inv-loop μ-loop
 clock-within-requires c κs = room c
 
@@ -108,6 +112,7 @@ read-systems-spec =
     mul-clock-within
     add-clock-within-2
     add-clock-within-3
+    cast-clock-within
     clock-within-requires
     enum-told-2
     enum-told-3

@@ -6,7 +6,8 @@ use native.Mathlib.Omega.{arith}
 use lib.ListN.{length}
 use denote.Ref.{now}
 use Rattle.format.specs.Whole.{editionFor}
-use Rattle.bits.proofs.Answers.{got-all, got-lt}
+use Rattle.bits.proofs.Answers.{got-all, got-lt, next-place}
+use Rattle.bits.proofs.Places.{within-fits, end-fits}
 use Rattle.write_runs.proofs.WentLaws.{done}
 use Rattle.write_plans.proofs.PlanLaws.{at-least, at-byte, hopping-byte, length-appended, plan-done, plan-over, plan-cut, plan-no}
 use borrow.Author.Needs.{needs}
@@ -41,6 +42,9 @@ returns c =
     let pre = c .before .before .before .before .before .before .pre in
     record { to = plan-cut _ _ _ _ _ (pre .0 .within) (c .before .before .before .read-u .ensures) (c .before .enum-told .given .1) (c .refusal-of .ensures) }
 
+cast-stop : tie.Need-cast-stop
+cast-stop c = search needs
+
 mul-stop : tie.Need-mul-stop
 mul-stop c =
     let a = c .before .before .before .before .before .before .args in
@@ -53,6 +57,14 @@ add-stop c =
     let q = c .before .before .before .read-u .ensures in
     let m = c .before .r .given .1 in
     omega (arith, got-lt (now (a .body)) (a .at) 12 m q, got-all (now (a .body)) (a .at) 12 _ _ q m .next, pre .0 .within, pre .0 .short)
+
+cast-stop-2 : tie.Need-cast-stop-2
+cast-stop-2 c =
+    let a = c .before .before .before .before .before .before .args in
+    let pre = c .before .before .before .before .before .before .pre in
+    let q = c .before .before .before .read-u .ensures in
+    let m = c .before .r .given .1 in
+    end-fits _ (next-place (a .at) 12 m q (pre .0 .short)) (got-lt (now (a .body)) (a .at) 12 m q)
 
 write-length-requires : tie.Need-write-length-requires
 write-length-requires c κs = search needs
@@ -80,8 +92,11 @@ returns-2 c =
     let a = c .before .before .before .before .before .before .before .before .before .before .before .before .before .before .before .before .args in
     plan-no _ _ _ _ (c .before .before .before .before .before .before .before .before .before .before .before .before .before .read-u .ensures) (c .before .before .before .before .before .before .before .before .before .before .before .r .given .1) refl (c .enum-told2 .given .1) (c .before .before .before .before .write-hopping .ensures (editionFor (a .version)))
 
-sub-t26 : tie.Need-sub-t26
-sub-t26 c = search needs
+sub-t28 : tie.Need-sub-t28
+sub-t28 c = search needs
+
+cast-t29 : tie.Need-cast-t29
+cast-t29 c = search needs
 
 same-length-2 : tie.Need-same-length-2
 same-length-2 c = search needs
@@ -92,8 +107,16 @@ returns-3 c =
     let w = done (c .before .before .hopping .given .1) (c .before .before .before .before .before .before .write-hopping .ensures (editionFor (a .version))) in
     record { to = plan-over _ _ _ _ (c .before .before .before .before .before .before .before .before .before .before .before .before .before .before .before .read-u .ensures) (c .before .before .before .before .before .before .before .before .before .before .before .before .before .r .given .1) refl w (c .if1 .taken) }
 
+cast-lesser : tie.Need-cast-lesser
+cast-lesser c = omega (arith, cast-stop-2 (c .before .before .before .before .before .before .before .before .before .before .before .before))
+
 lesser-requires : tie.Need-lesser-requires
 lesser-requires c κs = search needs
+
+cast-next : tie.Need-cast-next
+cast-next c =
+    let s = c .before .before .before .before .before .before .before .before .before .before .before .before .before .before .before .before .before .before .before in
+    within-fits (now (s .args .body)) (s .pre .0 .short) (c .lesser .ensures .1)
 
 write-filler-requires : tie.Need-write-filler-requires
 write-filler-requires c κs =
@@ -133,18 +156,23 @@ write-ended-spec =
     enum-told
     refusal-of-requires
     returns
+    cast-stop
     mul-stop
     add-stop
+    cast-stop-2
     write-length-requires
     write-hopping-requires
     enum-known-hopping
     enum-told-2
     same-length
     returns-2
-    sub-t26
+    sub-t28
+    cast-t29
     same-length-2
     returns-3
+    cast-lesser
     lesser-requires
+    cast-next
     write-filler-requires
     same-length-3
     returns-4)

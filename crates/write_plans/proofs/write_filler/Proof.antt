@@ -12,6 +12,9 @@ use Rattle.write_plans.proofs.write_bytes.Reads as write-bytes-reads
 sub-write-bytes : tie.Need-sub-write-bytes
 sub-write-bytes c = search needs
 
+cast-write-bytes : tie.Need-cast-write-bytes
+cast-write-bytes c = search needs
+
 write-bytes-requires : tie.Need-write-bytes-requires
 write-bytes-requires c κs = search needs
 
@@ -26,4 +29,4 @@ returns-2 c = rw (ne-eqb ((c .before .before .before .args) .version) 2 (c .if1 
 
 pub write-filler-spec : {M : Type 1} → statement M
 write-filler-spec =
-    tie.close (tie.spec sub-write-bytes write-bytes-requires same-length returns returns-2)
+    tie.close (tie.spec sub-write-bytes cast-write-bytes write-bytes-requires same-length returns returns-2)

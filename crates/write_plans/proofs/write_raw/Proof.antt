@@ -5,6 +5,7 @@ use native.Mathlib.Omega.{arith}
 use lib.ListN.{length}
 use denote.Ref.{now}
 use Rattle.write_runs.specs.Went.{inside}
+use Rattle.bits.proofs.Places.{within-fits}
 use Rattle.write_plans.proofs.SlotLaws.{raw-fits, raw-done}
 use borrow.Author.Needs.{needs}
 use Rattle.write_plans.proofs.write_raw.Statement.{statement}
@@ -28,13 +29,21 @@ write-bytes-requires c κs =
     let f = raw-fits (a .at) (a .stop) (8 * length (now (a .body))) (raw-bits .result) (pre .0 .within) (pre .1 .0) (pre .1 .1) (raw-bits .ensures) in
     (pre .0 .short, f .fits, f .whole, omega (arith, pre .0 .behind, pre .0 .within, pre .0 .short))
 
-add-t8 : tie.Need-add-t8
-add-t8 c =
+add-t9 : tie.Need-add-t9
+add-t9 c =
     let a = c .before .before .before .before .before .before .before .args in
     let pre = c .before .before .before .before .before .before .before .pre in
     let raw-bits = c .before .before .before .before .raw-bits in
     let f = raw-fits (a .at) (a .stop) (8 * length (now (a .body))) (raw-bits .result) (pre .0 .within) (pre .1 .0) (pre .1 .1) (raw-bits .ensures) in
     omega (arith, f .fits, pre .0 .short)
+
+cast-t12 : tie.Need-cast-t12
+cast-t12 c =
+    let a = c .before .before .before .before .before .before .before .args in
+    let pre = c .before .before .before .before .before .before .before .pre in
+    let raw-bits = c .before .before .before .before .raw-bits in
+    let f = raw-fits (a .at) (a .stop) (8 * length (now (a .body))) (raw-bits .result) (pre .0 .within) (pre .1 .0) (pre .1 .1) (raw-bits .ensures) in
+    within-fits (now (a .body)) (pre .0 .short) (f .fits)
 
 same-length : tie.Need-same-length
 same-length c = search needs
@@ -50,4 +59,4 @@ returns c =
 pub write-raw-spec : {M : Type 1} → statement M
 write-raw-spec =
     tie.close
-    (tie.spec mul-raw-bits raw-bits-requires write-bytes-requires add-t8 same-length returns)
+    (tie.spec mul-raw-bits raw-bits-requires write-bytes-requires add-t9 cast-t12 same-length returns)

@@ -1,9 +1,9 @@
 -- `step_refusal` meets its contract, by the case of the answer.
 -- Assumes nothing.
 use borrow.Author.Needs.{needs}
-use Rattle.runs.specs.Steps.{refusalIn}
-use Rattle.runs.proofs.step_refusal.Statement.{statement}
-use Rattle.runs.proofs.step_refusal.Tie as tie
+use Rattle.write_runs.specs.Steps.{refusalIn}
+use Rattle.write_runs.proofs.step_refusal.Statement.{statement}
+use Rattle.write_runs.proofs.step_refusal.Tie as tie
 
 enum-told : tie.Need-enum-told
 enum-told c = search needs
