@@ -1,4 +1,6 @@
 // Table id 2: a time association.
+#![tactic(auto)]
+
 ghost use Rattle.std.specs.Prelude.{◌≡◌, ◌≤◌, length};
 ghost use Rattle.bits.specs.Read.{Room};
 ghost use Rattle.association.specs.Association.{association_type_of, type_number, leap_at, reserved_at, association_at, refusal_of};
@@ -7,14 +9,14 @@ use bits::value_at;
 use clocks::{ClockAnswer, clock_refusal, clock_within};
 use format::Refusal;
 
-#[derive(Drop)]
+#[derive(Clone, Copy)]
 pub enum AssociationType {
     UtcWithoutLeap,
     UtcWithLeap,
     Reserved(u8),
 }
 
-#[derive(Drop)]
+#[derive(Clone, Copy)]
 pub struct LeapInfo {
     pub leap59: bool,
     pub leap61: bool,
@@ -23,14 +25,14 @@ pub struct LeapInfo {
 }
 
 // The leap flags, which only one type has.
-#[derive(Drop)]
+#[derive(Clone, Copy)]
 pub enum MaybeLeapInfo {
     Some(LeapInfo),
     None,
 }
 
 // reserved_zero_future_use_4 is 0 where there are leap flags.
-#[derive(Drop)]
+#[derive(Clone, Copy)]
 pub struct TimeAssociationBody {
     pub association_type: AssociationType,
     pub leap_info: MaybeLeapInfo,
@@ -43,7 +45,7 @@ pub struct TimeAssociationBody {
 }
 
 // What reading a body finds: the association and the place behind it, or why it is refused.
-#[derive(Drop)]
+#[derive(Clone, Copy)]
 pub enum TimeAssociationAnswer {
     Entry {
         association: TimeAssociationBody,

@@ -1,4 +1,6 @@
 // A reader that keeps its place in a lent body; each method is over the function of crate `bits` that takes the place by value.
+#![tactic(auto)]
+
 ghost use Rattle.std.specs.Prelude.{◌≡◌, ◌+◌, ◌-◌, ◌*◌, ◌≤◌, length};
 ghost use Rattle.bits.specs.Read.{Place, Room};
 ghost use Rattle.bit_reader.specs.Readers.{start_of, moved, reads, reads_signed, place_after, place_after_signed};

@@ -1,4 +1,6 @@
 // Which of two clock readings is the earlier one, around the clock's turn.
+#![tactic(auto)]
+
 ghost use Rattle.std.specs.Prelude.{◌≡◌};
 ghost use Rattle.format.specs.Added.{ticks};
 ghost use Rattle.clock_order.specs.Clock.{forward};
@@ -10,7 +12,7 @@ const TURN: u64 = 2576980377600;
 const HALF: u64 = TURN / 2;
 
 // The first reading against the second; opposite is half a turn away.
-#[derive(Drop)]
+#[derive(Clone, Copy)]
 pub enum ClockOrder {
     Earlier,
     Same,

@@ -1,4 +1,6 @@
 // A clock: 48 bits, of which 33 are its base and 9 its extension. A stamp: 56 bits, a year, a day and a part of a day.
+#![tactic(auto)]
+
 ghost use Rattle.std.specs.Prelude.{◌≡◌};
 ghost use Rattle.bits.specs.Read.{Place, Room};
 ghost use Rattle.clocks.specs.Clocks.{clock_at, clock_of, stamp_of, refusal_of};
@@ -8,14 +10,14 @@ use bit_reader::BitReader;
 use bits::{Bits, refusal_of, value_at};
 use format::Refusal;
 
-#[derive(Drop)]
+#[derive(Clone, Copy)]
 pub struct Clock {
     pub base: u64,
     pub reserved: u8,
     pub ext: u16,
 }
 
-#[derive(Drop)]
+#[derive(Clone, Copy)]
 pub struct Stamp {
     pub year: u8,
     pub reserved: u8,
@@ -24,7 +26,7 @@ pub struct Stamp {
 }
 
 // What reading a clock at a place finds: the clock and the place behind it, or why it is refused.
-#[derive(Drop)]
+#[derive(Clone, Copy)]
 pub enum ClockAnswer {
     Read { clock: Clock, next: u16 },
     Refused(Refusal),

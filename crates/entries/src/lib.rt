@@ -21,7 +21,7 @@ use position_v3::{
 
 // How many entries there are, the bit place at which the one at an index starts (0 where there is none), and the one
 // where the reading ended: behind the last entry of a list, and else at the body's end.
-#[derive(Drop)]
+#[derive(Clone, Copy)]
 pub enum Walked {
     Entries { count: usize, place: u16, end: u16 },
     Refused(Refusal),

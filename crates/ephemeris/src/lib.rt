@@ -9,20 +9,20 @@ use clocks::stamp_at;
 use format::Refusal;
 use parts::{Part, PartAnswer};
 
-#[derive(Drop)]
+#[derive(Clone, Copy)]
 pub struct EphemerisAccel {
     pub ephemeris_x_ddot: u32,
     pub ephemeris_y_ddot: u32,
     pub ephemeris_z_ddot: u32,
 }
 
-#[derive(Drop)]
+#[derive(Clone, Copy)]
 pub enum MaybeEphemerisAccel {
     Some(EphemerisAccel),
     None,
 }
 
-#[derive(Drop)]
+#[derive(Clone, Copy)]
 pub struct EphemerisData {
     pub epoch_year: u8,
     pub epoch_day: u16,
@@ -38,7 +38,7 @@ pub struct EphemerisData {
 }
 
 // The covariance without its 21 elements: those stand beside it, as an enum holds no array.
-#[derive(Drop)]
+#[derive(Clone, Copy)]
 pub struct CovarianceData {
     pub covariance_epoch_year: u8,
     pub covariance_epoch_day: u16,
@@ -46,21 +46,21 @@ pub struct CovarianceData {
     pub covariance_epoch_reserved_zero_future_use: u8,
 }
 
-#[derive(Drop)]
+#[derive(Clone, Copy)]
 pub enum MaybeCovariance {
     Some(CovarianceData),
     None,
 }
 
 // An ephemeris entry by its index, or none.
-#[derive(Drop)]
+#[derive(Clone, Copy)]
 pub enum EphemerisDataAnswer {
     Data(EphemerisData),
     None,
 }
 
 // What reading a covariance finds: the covariance, if its flag is set, and the place behind it; or why it is refused.
-#[derive(Drop)]
+#[derive(Clone, Copy)]
 pub enum CovarianceAnswer {
     Read {
         covariance: MaybeCovariance,

@@ -9,7 +9,7 @@ use format::Refusal;
 use parts::{Part, PartAnswer, part_refusal, read_part};
 use systems::read_systems;
 
-#[derive(Drop)]
+#[derive(Clone, Copy)]
 pub struct CellCentre {
     pub centre_latitude: i32,
     pub centre_longitude: i32,
@@ -19,13 +19,13 @@ pub struct CellCentre {
     pub reserved_zero_future_use_6: u8,
 }
 
-#[derive(Drop)]
+#[derive(Clone, Copy)]
 pub enum MaybeCellCentre {
     Some(CellCentre),
     None,
 }
 
-#[derive(Drop)]
+#[derive(Clone, Copy)]
 pub struct CellFragment {
     pub cell_fragment_id: u32,
     pub first_occurrence: bool,
@@ -40,14 +40,14 @@ pub struct CellFragment {
 }
 
 // What reading a fragment finds: the fragment and the place behind it, or why it is refused.
-#[derive(Drop)]
+#[derive(Clone, Copy)]
 pub enum CellFragmentAnswer {
     Entry { fragment: CellFragment, next: u16 },
     Refused(Refusal),
 }
 
 // The three lists at a fragment's end, and the reserved bits before the second and the third.
-#[derive(Drop)]
+#[derive(Clone, Copy)]
 struct Lists {
     ids: Part,
     new: Part,
@@ -56,7 +56,7 @@ struct Lists {
     reserved_obsolescent: u8,
 }
 
-#[derive(Drop)]
+#[derive(Clone, Copy)]
 enum ListsAnswer {
     Read { lists: Lists, next: u16 },
     Refused(Refusal),

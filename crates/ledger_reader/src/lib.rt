@@ -178,7 +178,7 @@ fn read_content(version: u8, table_id: u8, ledger: &[u8], out: &mut [u8]) -> Ste
 }
 
 // What a ledger stands for: its table id and the length of the body, or why it is refused.
-#[derive(Drop)]
+#[derive(Clone, Copy)]
 pub enum Measure {
     Size { table_id: u8, length: usize },
     Refused(Refusal),

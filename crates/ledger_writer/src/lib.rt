@@ -17,7 +17,7 @@ use write_runs::{Step, put, step_refusal, within};
 use write_tables::{write_association, write_fragment, write_position};
 
 // The length of a body's ledger, or why the body is refused.
-#[derive(Drop)]
+#[derive(Clone, Copy)]
 pub enum LedgerSize {
     Size(usize),
     Refused(Refusal),

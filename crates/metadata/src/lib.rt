@@ -7,7 +7,7 @@ use bits::value_at;
 use clocks::stamp_at;
 use format::Refusal;
 
-#[derive(Drop)]
+#[derive(Clone, Copy)]
 pub enum InterpolationType {
     Reserved0,
     Linear,
@@ -17,7 +17,7 @@ pub enum InterpolationType {
     ReservedOther(u8),
 }
 
-#[derive(Drop)]
+#[derive(Clone, Copy)]
 pub struct UsableTime {
     pub year: u8,
     pub day: u16,
@@ -25,13 +25,13 @@ pub struct UsableTime {
     pub reserved_zero_future_use: u8,
 }
 
-#[derive(Drop)]
+#[derive(Clone, Copy)]
 pub enum MaybeUsableTime {
     Some(UsableTime),
     None,
 }
 
-#[derive(Drop)]
+#[derive(Clone, Copy)]
 pub struct PositionV3Metadata {
     pub total_start_time_year: u8,
     pub total_start_time_day: u16,
@@ -49,21 +49,21 @@ pub struct PositionV3Metadata {
     pub reserved_zero_future_use: u8,
 }
 
-#[derive(Drop)]
+#[derive(Clone, Copy)]
 pub enum MaybeMetadata {
     Some(PositionV3Metadata),
     None,
 }
 
 // What reading a usable time finds: the time, if its flag is set, and the place behind it; or why it is refused.
-#[derive(Drop)]
+#[derive(Clone, Copy)]
 pub enum UsableAnswer {
     Read { time: MaybeUsableTime, next: u16 },
     Refused(Refusal),
 }
 
 // The same for the whole metadata.
-#[derive(Drop)]
+#[derive(Clone, Copy)]
 pub enum MetadataAnswer {
     Read { metadata: MaybeMetadata, next: u16 },
     Refused(Refusal),

@@ -1,4 +1,6 @@
 // A list inside an entry: where its bytes lie in the body, and how many slots of a bitmap are on.
+#![tactic(auto)]
+
 ghost use Rattle.std.specs.Prelude.{◌≡◌, ◌+◌, ◌*◌, ◌≤◌, length, take, drop};
 ghost use Rattle.format.specs.Digits.{bits_of};
 ghost use Rattle.format.specs.ByName.{ones};
@@ -9,7 +11,7 @@ use bits::{Bits, read_u, refusal_of};
 use format::Refusal;
 
 // The bytes of the body that hold a list, and how many elements it has.
-#[derive(Drop)]
+#[derive(Clone, Copy)]
 pub struct Part {
     pub start: usize,
     pub length: usize,
@@ -17,7 +19,7 @@ pub struct Part {
 }
 
 // What reading a list finds: its part and the place behind it, or why it is refused.
-#[derive(Drop)]
+#[derive(Clone, Copy)]
 pub enum PartAnswer {
     Read { part: Part, next: u16 },
     Refused(Refusal),

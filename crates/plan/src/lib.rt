@@ -9,7 +9,7 @@ use format::Refusal;
 use plan_modes::{BeamhoppingMode, ModeAnswer, TimePlanMode, mode_refusal, read_mode};
 
 // A plan as the Rust has it, and its length as it was read.
-#[derive(Drop)]
+#[derive(Clone, Copy)]
 pub struct BeamhoppingPlan {
     pub beamhopping_time_plan_id: u32,
     pub time_plan_mode: TimePlanMode,
@@ -26,7 +26,7 @@ pub struct BeamhoppingPlan {
 }
 
 // The fields in front of those that plan_length counts.
-#[derive(Drop)]
+#[derive(Clone, Copy)]
 pub struct PlanHead {
     pub id: u32,
     pub reserved: u8,
@@ -34,7 +34,7 @@ pub struct PlanHead {
 }
 
 // A plan and the place at which the next one starts, or why there is none.
-#[derive(Drop)]
+#[derive(Clone, Copy)]
 pub enum BeamhoppingAnswer {
     Entry { plan: BeamhoppingPlan, next: u16 },
     Refused(Refusal),

@@ -8,7 +8,7 @@ use clocks::{ClockAnswer, clock_refusal, clock_within};
 use format::Refusal;
 use parts::{Part, slots_on};
 
-#[derive(Drop)]
+#[derive(Clone, Copy)]
 pub enum TimePlanMode {
     DwellOnTime,
     Bitmap,
@@ -17,7 +17,7 @@ pub enum TimePlanMode {
 }
 
 // What a mode has of its own. The Rust's lists are parts of the body; slots_on, how many slots are on, is added.
-#[derive(Drop)]
+#[derive(Clone, Copy)]
 pub enum BeamhoppingMode {
     Mode0 {
         dwell_duration_base: u64,
@@ -53,7 +53,7 @@ pub enum BeamhoppingMode {
 }
 
 // What reading a mode finds: the mode and the place behind it, or why it is refused.
-#[derive(Drop)]
+#[derive(Clone, Copy)]
 pub enum ModeAnswer {
     Mode { mode: BeamhoppingMode, next: u16 },
     Refused(Refusal),

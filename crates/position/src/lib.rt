@@ -1,4 +1,6 @@
 // Table id 0: satellites and their positions.
+#![tactic(auto)]
+
 ghost use Rattle.std.specs.Prelude.{◌≡◌, ◌+◌};
 ghost use Rattle.bits.specs.Read.{Place, Room};
 ghost use Rattle.position.specs.Satellite.{orbital_at, elements_at, system_at, satellite_at, system_refusal, position_refusal};
@@ -8,7 +10,7 @@ use bits::{Bits, read_u, refusal_of, value_at};
 use format::Refusal;
 
 // Where a satellite is: a place on the orbit, or the elements of one.
-#[derive(Drop)]
+#[derive(Clone, Copy)]
 pub enum PositionSystem {
     Orbital {
         orbital_position: u16,
@@ -31,7 +33,7 @@ pub enum PositionSystem {
     },
 }
 
-#[derive(Drop)]
+#[derive(Clone, Copy)]
 pub struct PositionV2Satellite {
     pub satellite_id: u32,
     pub position: PositionSystem,
@@ -39,14 +41,14 @@ pub struct PositionV2Satellite {
 }
 
 // What reading a position finds, and the place behind it.
-#[derive(Drop)]
+#[derive(Clone, Copy)]
 pub enum SystemAnswer {
     Read { position: PositionSystem, next: u16 },
     Refused(Refusal),
 }
 
 // What reading a satellite finds, and the place behind it.
-#[derive(Drop)]
+#[derive(Clone, Copy)]
 pub enum PositionV2Answer {
     Entry {
         satellite: PositionV2Satellite,

@@ -13,7 +13,7 @@ use format::Refusal;
 use metadata::{MaybeMetadata, MetadataAnswer, metadata_refusal, read_metadata};
 use parts::{Part, PartAnswer, part_refusal};
 
-#[derive(Drop)]
+#[derive(Clone, Copy)]
 pub struct PositionV3Header {
     pub oem_version_major: u8,
     pub oem_version_minor: u8,
@@ -24,13 +24,13 @@ pub struct PositionV3Header {
 }
 
 // What reading the header finds: the header and the place behind it, or why it is refused.
-#[derive(Drop)]
+#[derive(Clone, Copy)]
 pub enum HeaderAnswer {
     Header { header: PositionV3Header, next: u16 },
     Refused(Refusal),
 }
 
-#[derive(Drop)]
+#[derive(Clone, Copy)]
 pub struct PositionV3Satellite {
     pub satellite_id: u32,
     pub usable_start_time_flag: bool,
@@ -44,7 +44,7 @@ pub struct PositionV3Satellite {
 }
 
 // What reading a satellite finds: the satellite and the place behind it, or why it is refused.
-#[derive(Drop)]
+#[derive(Clone, Copy)]
 pub enum PositionV3Answer {
     Entry {
         satellite: PositionV3Satellite,
@@ -54,14 +54,14 @@ pub enum PositionV3Answer {
 }
 
 // The answer, and beside it the covariance's elements: zeros where there is no covariance, and after a refusal.
-#[derive(Drop)]
+#[derive(Clone, Copy)]
 pub struct PositionV3Read {
     pub answer: PositionV3Answer,
     pub covariance_elements: [u32; 21],
 }
 
 // The four flags that a satellite keeps, as numbers.
-#[derive(Drop)]
+#[derive(Clone, Copy)]
 pub struct Flags {
     pub start: u8,
     pub stop: u8,
@@ -69,14 +69,14 @@ pub struct Flags {
     pub covariance: u8,
 }
 
-#[derive(Drop)]
+#[derive(Clone, Copy)]
 pub enum FlagsAnswer {
     Read { flags: Flags, next: u16 },
     Refused(Refusal),
 }
 
 // A satellite's fields in front of its metadata.
-#[derive(Drop)]
+#[derive(Clone, Copy)]
 pub struct Front {
     pub satellite_id: u32,
     pub reserved: u8,
@@ -84,7 +84,7 @@ pub struct Front {
     pub flags: Flags,
 }
 
-#[derive(Drop)]
+#[derive(Clone, Copy)]
 pub enum FrontAnswer {
     Read { front: Front, next: u16 },
     Refused(Refusal),

@@ -16,7 +16,7 @@ use write_runs::within;
 
 // Where a step came to: its place in the body that is laid, in bits, its place in the ledger, and the last field's
 // number; or a refusal. A long ledger lays more than 65,535 bits before it is refused by 26, so the place is wide.
-#[derive(Drop)]
+#[derive(Clone, Copy)]
 pub enum Step {
     Done { at: usize, place: usize, last: u64 },
     Refused(Refusal),

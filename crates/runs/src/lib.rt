@@ -1,4 +1,6 @@
 // What both directions of the ledger share: what a field is, by its mark in a run of fields; bytes copied as they are.
+#![tactic(auto)]
+
 ghost use Rattle.std.specs.Prelude.{◌≡◌, ◌%◌, ◌^◌, ◌<◌, T};
 ghost use Rattle.runs.specs.Lines.{width_of, size_of, size_for, shown_of, mark_ok};
 ghost use Rattle.runs.specs.Stored.{stored};

@@ -21,22 +21,22 @@ use position_v3::{
 };
 
 // A body by its table. A list of entries is the part of the body that they lie in, leftovers not among them.
-#[derive(Drop)]
+#[derive(Clone, Copy)]
 pub struct PositionV2Body {
     pub satellites: Part,
 }
 
-#[derive(Drop)]
+#[derive(Clone, Copy)]
 pub struct CellFragmentBody {
     pub fragments: Part,
 }
 
-#[derive(Drop)]
+#[derive(Clone, Copy)]
 pub struct BeamhoppingTimePlanBody {
     pub plans: Part,
 }
 
-#[derive(Drop)]
+#[derive(Clone, Copy)]
 pub struct PositionV3Body {
     pub oem_version_major: u8,
     pub oem_version_minor: u8,
@@ -48,7 +48,7 @@ pub struct PositionV3Body {
 }
 
 // A body of any table. A raw body is all of its bytes.
-#[derive(Drop)]
+#[derive(Clone, Copy)]
 pub enum SatBody {
     PositionV2(PositionV2Body),
     CellFragment(CellFragmentBody),
@@ -58,21 +58,21 @@ pub enum SatBody {
     Raw(Part),
 }
 
-#[derive(Drop)]
+#[derive(Clone, Copy)]
 pub enum SatBodyAnswer {
     Body(SatBody),
     Refused(Refusal),
 }
 
 // The number of a body's entries, or why the body is refused.
-#[derive(Drop)]
+#[derive(Clone, Copy)]
 pub enum CountAnswer {
     Entries(usize),
     Refused(Refusal),
 }
 
 // The header under id 4; none under another id.
-#[derive(Drop)]
+#[derive(Clone, Copy)]
 pub enum BodyHeader {
     Header(PositionV3Header),
     None,
@@ -80,7 +80,7 @@ pub enum BodyHeader {
 }
 
 // An entry of any table. A raw body is one entry: its part is the body itself.
-#[derive(Drop)]
+#[derive(Clone, Copy)]
 pub enum SatEntry {
     PositionV2(PositionV2Satellite),
     CellFragment(CellFragment),
@@ -90,7 +90,7 @@ pub enum SatEntry {
     Raw(Part),
 }
 
-#[derive(Drop)]
+#[derive(Clone, Copy)]
 pub enum EntryAnswer {
     Entry(SatEntry),
     None,
@@ -98,7 +98,7 @@ pub enum EntryAnswer {
 }
 
 // The answer, and beside it the covariance's elements: zeros where there is no covariance.
-#[derive(Drop)]
+#[derive(Clone, Copy)]
 pub struct EntryRead {
     pub answer: EntryAnswer,
     pub covariance_elements: [u32; 21],

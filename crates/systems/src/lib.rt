@@ -1,4 +1,6 @@
 // A list of a cell fragment's systems; and the elements of its three lists, by their index.
+#![tactic(auto)]
+
 ghost use Rattle.std.specs.Prelude.{◌≡◌, ◌≤◌};
 ghost use Rattle.bits.specs.Read.{Place};
 ghost use Rattle.systems.specs.Systems.{systems_at, within, id_at, new_at, obsolescent_at};
@@ -7,7 +9,7 @@ use bits::value_at;
 use clocks::{ClockAnswer, clock_refusal, clock_within};
 use parts::{Part, PartAnswer, read_part};
 
-#[derive(Drop)]
+#[derive(Clone, Copy)]
 pub struct NewDeliverySystem {
     pub new_delivery_system_id: u32,
     pub time_of_application_base: u64,
@@ -15,7 +17,7 @@ pub struct NewDeliverySystem {
     pub reserved_zero_future_use: u8,
 }
 
-#[derive(Drop)]
+#[derive(Clone, Copy)]
 pub struct ObsolescentDeliverySystem {
     pub obsolescent_delivery_system_id: u32,
     pub time_of_obsolescence_base: u64,
@@ -23,19 +25,19 @@ pub struct ObsolescentDeliverySystem {
     pub reserved_zero_future_use: u8,
 }
 
-#[derive(Drop)]
+#[derive(Clone, Copy)]
 pub enum MaybeDeliverySystemId {
     Id(u32),
     None,
 }
 
-#[derive(Drop)]
+#[derive(Clone, Copy)]
 pub enum MaybeNewDeliverySystem {
     Some(NewDeliverySystem),
     None,
 }
 
-#[derive(Drop)]
+#[derive(Clone, Copy)]
 pub enum MaybeObsolescentDeliverySystem {
     Some(ObsolescentDeliverySystem),
     None,

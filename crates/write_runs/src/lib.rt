@@ -1,5 +1,7 @@
 // Fields of a body, gone through by their marks and written as a ledger on the way.
 // Where the buffer is too short it may keep anything, and the answer is the same: so the size is asked for with an empty one.
+#![tactic(auto)]
+
 ghost use Rattle.std.specs.Prelude.{◌≡◌, List, [], ◌∷◌, ℕ, ◌-◌, ◌*◌, ◌^◌, ◌≤◌, ◌<◌, T, length, get_or};
 ghost use Rattle.format.specs.Digits.{digits, value_at};
 ghost use Rattle.format.specs.Refusals.{refuse};
@@ -18,7 +20,7 @@ use runs::{shown_of, size_for, size_of, width_of};
 
 // Where a step came to: its place in the ledger, its place in the body that is read, in bits, and the last field's
 // number; or a refusal. In this order they lie beside a refusal's numbers, which costs the least.
-#[derive(Drop)]
+#[derive(Clone, Copy)]
 pub enum Step {
     Done { place: usize, at: u16, last: u64 },
     Refused(Refusal),

@@ -1,0 +1,20 @@
+-- `patched` meets its contract, by the law of the same name.
+-- Assumes nothing.
+use Prim.Native.Nat.{◌-◌}
+use native.Mathlib.Omega.{arith}
+use lib.Pow.{pow_pos}
+use borrow.Author.Rules.{rules}
+use Rattle.bits.proofs.Values.{one_shl}
+use Rattle.bits.proofs.Patches as patches
+use Rattle.bits.proofs.patched.Goals as goal
+use Rattle.bits.proofs.patched.Goals.{Start}
+
+-- the law at the function's arguments
+law : (c : Start) → patches.Patched c.args.b c.args.off c.args.n c.args.c
+law c = patches.patched _ _ _ _ c.ranges.b.fits (omega arith) c.requires.1
+
+pub overflow_cast-result : goal.overflow_cast-result
+overflow_cast-result c = record { fits = (law (goal.at.overflow_cast-result c).Start).byte }
+
+pub returns : goal.returns
+returns c = (law (goal.at.returns c).Start).same

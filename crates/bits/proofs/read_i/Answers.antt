@@ -1,0 +1,15 @@
+-- `read_i` meets its contract: it passes on what `read_u` refuses, and gives its number a sign.
+-- Assumes nothing.
+use native.Mathlib.Omega.{arith}
+use borrow.Author.Rules.{rules}
+use Rattle.bits.proofs.Answers.{got_lt, signed_got, signed_cut}
+use Rattle.bits.proofs.read_i.Goals as goal
+
+pub returns-in_default : goal.returns-in_default
+returns-in_default c = search signed_cut
+
+pub signed_of-requires : goal.signed_of-requires
+signed_of-requires c = (omega arith, omega arith, search got_lt)
+
+pub returns : goal.returns
+returns c = search (signed_got, rules)

@@ -1,0 +1,17 @@
+-- `value_bytewise` meets its contract. The loop's invariant: the number so far is that of the bits from `at` to the place.
+-- Assumes nothing.
+use Prim.Native.Nat.{◌-◌, ◌/◌, ◌≤◌}
+use mathlib.Core.Path.{◌≡◌, sym, ap, ◌∙◌}
+use native.Mathlib.Nat.{sub_self}
+use native.Mathlib.Omega.{arith}
+use Rattle.format.specs.Digits.{value_at}
+use Rattle.bits.proofs.Places.{within_fits}
+use Rattle.bits.proofs.Values as values
+use Rattle.bits.proofs.value_bytewise.Given as goal
+
+abbrev pub invariant-loop-here : goal.invariant-loop-here
+invariant-loop-here l =
+    (l.at ≤ l.here) × (l.here ≤ l.need) × (l.value ≡ value_at l.s l.at (l.here - l.at))
+
+abbrev pub decreases-loop-here : goal.decreases-loop-here
+decreases-loop-here l = l.need - l.here

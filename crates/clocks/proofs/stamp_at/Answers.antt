@@ -1,0 +1,17 @@
+-- A stamp that is all there: a field at a time.
+-- Assumes nothing.
+use Rattle.bits.proofs.Answers.{value_fits}
+use borrow.Author.Rules.{rules}
+use Rattle.clocks.proofs.stamp_at.Goals as goal
+
+pub overflow_cast-result : goal.overflow_cast-result
+overflow_cast-result c = search value_fits
+
+pub overflow_cast-result-2 : goal.overflow_cast-result-2
+overflow_cast-result-2 c = search value_fits
+
+pub overflow_cast-result-3 : goal.overflow_cast-result-3
+overflow_cast-result-3 c = search value_fits
+
+pub overflow_cast-result-4 : goal.overflow_cast-result-4
+overflow_cast-result-4 c = search value_fits

@@ -1,0 +1,67 @@
+-- `elements_at` meets its contract: each field stands where the description has it.
+-- Assumes nothing.
+use Prim.Native.Nat.{◌+◌}
+use native.Mathlib.Omega.{arith}
+use borrow.Author.Rules.{rules}
+use Rattle.format.specs.ByName.{first_by}
+use Rattle.bits.proofs.Answers.{value_fits}
+use Rattle.position.specs.declared.PositionSystem.TheVariants.{Sgp4}
+use Rattle.position.specs.declared.SystemAnswer.TheVariants.{Read}
+use Rattle.position.proofs.Systems.{elements_there}
+use Rattle.position.proofs.elements_at.Goals as goal
+
+pub overflow_cast-result : goal.overflow_cast-result
+overflow_cast-result c = search value_fits
+
+pub overflow_cast-result-2 : goal.overflow_cast-result-2
+overflow_cast-result-2 c = search value_fits
+
+pub overflow_cast-result-3 : goal.overflow_cast-result-3
+overflow_cast-result-3 c = search value_fits
+
+pub overflow_cast-result-4 : goal.overflow_cast-result-4
+overflow_cast-result-4 c = search value_fits
+
+pub overflow_cast-result-5 : goal.overflow_cast-result-5
+overflow_cast-result-5 c = search value_fits
+
+pub overflow_cast-result-6 : goal.overflow_cast-result-6
+overflow_cast-result-6 c = search value_fits
+
+pub overflow_cast-result-7 : goal.overflow_cast-result-7
+overflow_cast-result-7 c = search value_fits
+
+pub overflow_cast-result-8 : goal.overflow_cast-result-8
+overflow_cast-result-8 c = search value_fits
+
+pub overflow_cast-result-9 : goal.overflow_cast-result-9
+overflow_cast-result-9 c = search value_fits
+
+pub overflow_cast-result-10 : goal.overflow_cast-result-10
+overflow_cast-result-10 c = search value_fits
+
+pub overflow_cast-result-11 : goal.overflow_cast-result-11
+overflow_cast-result-11 c = search value_fits
+
+pub overflow_cast-result-12 : goal.overflow_cast-result-12
+overflow_cast-result-12 c = search value_fits
+
+pub returns : goal.returns
+unfolding first_by
+returns c =
+    let a = c.args in
+    elements_there _ a.at (omega arith)
+    (λ i. Read
+    (Sgp4
+    (c.value_at.ensures i)
+    (c.value_at-2.ensures i)
+    (c.value_at-3.ensures i)
+    (c.value_at-4.ensures i)
+    (c.value_at-5.ensures i)
+    (c.value_at-6.ensures i)
+    (c.value_at-7.ensures i)
+    (c.value_at-8.ensures i)
+    (c.value_at-9.ensures i)
+    (c.value_at-10.ensures i)
+    (c.value_at-11.ensures i)
+    (c.value_at-12.ensures i)) (a.at + 344))

@@ -1,0 +1,18 @@
+-- `size_at` meets its contract: below 128 no number matters.
+-- Assumes nothing.
+use mathlib.Core.Path.{sym, ap, ◌∙◌}
+use native.Mathlib.Omega.{arith}
+use borrow.Author.Rules.{rules}
+use Rattle.format.specs.Digits.{value_at}
+use Rattle.runs.specs.Lines.{size_for}
+use Rattle.runs.proofs.MarkLaws.{not_ext, mark_facts, plain_size}
+use Rattle.write_runs.proofs.size_at.Goals as goal
+
+pub returns-then-mark-lt128 : goal.returns-then-mark-lt128
+returns-then-mark-lt128 c = c.size_of.ensures ∙ sym (plain_size _ _ (not_ext c.if-mark-lt128.true))
+
+pub value_at-requires : goal.value_at-requires
+value_at-requires c =
+    let pre = c.requires in
+    let w = c.width_of.ensures in
+    record { room = record { short = pre.room.short; fits = omega (arith, w, pre.room.fits) }; bits_bound = omega (arith, w, (mark_facts c.args.mark pre.t).most) }

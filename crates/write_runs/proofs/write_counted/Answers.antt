@@ -1,0 +1,13 @@
+-- `write_counted` meets its contract: the bits are asked for first, then the rounds.
+-- Assumes nothing.
+use native.Mathlib.Omega.{arith}
+use borrow.Author.Rules.{rules}
+use Rattle.write_runs.proofs.WentLaws.{need_no, need_yes, starts}
+use Rattle.write_runs.proofs.Runs.{fits_product}
+use Rattle.write_runs.proofs.write_counted.Goals as goal
+
+pub returns-then-have-need : goal.returns-then-have-need
+returns-then-have-need c = λ e nms s. record { to = need_no _ e _ _ _ _ c.requires.placed.within (omega arith) }
+
+pub returns : goal.returns
+returns c = λ e nms s. starts (need_yes _ e _ _ _ _ (omega arith)) (c.write_rounds.ensures e nms s)
