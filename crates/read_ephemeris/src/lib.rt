@@ -1,4 +1,6 @@
 // The header and the entries of id 4, gone through in a ledger and laid as a body on the way: runs of fields by their marks.
+#![tactic(auto)]
+
 ghost use Rattle.std.specs.Prelude.{◌≡◌, ℕ, ◌+◌, ◌%◌};
 ghost use Rattle.format.specs.Syntax.{Name, Syntax, end};
 ghost use Rattle.format.specs.Tables.{times, header, usable, metadata, ephemeris, covariance, ephemerides, position3};

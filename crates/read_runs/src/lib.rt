@@ -1,5 +1,7 @@
 // Fields of a ledger, gone through by their marks and laid as the bits of a body on the way.
 // Where the buffer is too short it may keep anything, and the answer is the same: so the size is asked for with an empty one.
+#![tactic(auto)]
+
 ghost use Rattle.std.specs.Prelude.{◌≡◌, List, ℕ, ◌-◌, ◌/◌, ◌^◌, ◌≤◌, ◌<◌, T, length, get_or};
 ghost use Rattle.format.specs.Digits.{digits, bits_of};
 ghost use Rattle.format.specs.Syntax.{Name, Syntax};

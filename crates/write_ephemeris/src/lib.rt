@@ -1,4 +1,6 @@
 // Table 4 written as a ledger: its header, and its satellites with metadata, ephemeris entries and covariance.
+#![tactic(auto)]
+
 ghost use Rattle.std.specs.Prelude.{ℕ};
 ghost use Rattle.format.specs.Syntax.{Name, Syntax, end};
 ghost use Rattle.format.specs.Tables.{times, header, usable, metadata, ephemeris, ephemerides, position3};

@@ -1,4 +1,6 @@
 // Id 3: a beam hopping time plan of a body, written as a ledger has it.
+#![tactic(auto)]
+
 ghost use Rattle.std.specs.Prelude.{◌≡◌, cond, ◌+◌, ◌-◌, ◌*◌, ◌%◌, ◌≤◌, ◌<◌, leb, length, take, drop};
 ghost use Rattle.format.specs.Digits.{digits, bits_of};
 ghost use Rattle.format.specs.Syntax.{Name, Syntax, end, slots, plan, raw, Edition, added};

@@ -1,4 +1,6 @@
 // The entries of tables 0, 1 and 2, written as a ledger: runs of marks, and the branches between them.
+#![tactic(auto)]
+
 ghost use Rattle.std.specs.Prelude.{◌<◌};
 ghost use Rattle.format.specs.Syntax.{end};
 ghost use Rattle.format.specs.Tables.{position, fragment, association};
