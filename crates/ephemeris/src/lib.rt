@@ -1,4 +1,6 @@
 // Table id 4: a satellite's ephemeris data and covariance.
+#![tactic(auto)]
+
 ghost use Rattle.std.specs.Prelude.{◌≡◌};
 ghost use Rattle.bits.specs.Read.{Place, Room};
 ghost use Rattle.ephemeris.specs.Entry.{Ahead, accel_of, entry_of, entry_bytes, entry_width, ephemeris_data_at};

@@ -1,4 +1,6 @@
 // Table id 4: a satellite's metadata, with the usable times that its flags announce.
+#![tactic(auto)]
+
 ghost use Rattle.std.specs.Prelude.{◌≡◌};
 ghost use Rattle.bits.specs.Read.{Place, Room};
 ghost use Rattle.metadata.specs.Metadata.{interpolation, interpolation_number, usable_of, usable_at, usable_refusal, metadata_of, metadata_at, metadata_refusal};

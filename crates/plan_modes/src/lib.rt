@@ -1,4 +1,6 @@
 // The modes of a beamhopping time plan, table id 3.
+#![tactic(auto)]
+
 ghost use Rattle.std.specs.Prelude.{◌≡◌, ℕ, ◌%◌};
 ghost use Rattle.bits.specs.Read.{Place, Room};
 ghost use Rattle.plan_modes.specs.Modes.{plan_mode, plan_mode_number, mode_refusal, dwell_at, bitmap_at, grid_at, raw_at, mode_at};

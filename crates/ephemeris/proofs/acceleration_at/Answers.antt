@@ -1,0 +1,17 @@
+-- `acceleration_at` meets its contract: three values, if the entry has them.
+-- Assumes nothing.
+use native.Mathlib.Omega.{arith}
+use borrow.Author.Rules.{rules}
+use Rattle.bits.specs.Read.{Room}
+use Rattle.bits.proofs.Answers.{value_fits}
+use Rattle.ephemeris.specs.declared.MaybeEphemerisAccel.TheVariants.{Some}
+use Rattle.ephemeris.proofs.acceleration_at.Goals as goal
+
+pub overflow_cast-result : goal.overflow_cast-result
+overflow_cast-result c = search (value_fits, tt)
+
+pub overflow_cast-result-then-accel : goal.overflow_cast-result-then-accel
+overflow_cast-result-then-accel c = search (value_fits, tt)
+
+pub overflow_cast-result-then-accel-2 : goal.overflow_cast-result-then-accel-2
+overflow_cast-result-then-accel-2 c = search (value_fits, tt)

@@ -1,0 +1,18 @@
+-- `covariance_elements_at` meets its contract. The loop's invariant: the first i values are in, the others 0.
+-- Assumes nothing.
+use Prim.Native.Nat.{◌-◌, ◌≤◌}
+use mathlib.Core.Path.{◌≡◌, refl, ◌∙◌}
+use mathlib.Core.List.{◌++◌, append-nil}
+use native.Mathlib.Omega.{arith}
+use lib.ListN.{replicate}
+use Rattle.bits.proofs.Answers.{value_below}
+use Rattle.bits.proofs.Places.{within_fits}
+use Rattle.ephemeris.specs.Ephemeris.{words_at}
+use Rattle.ephemeris.proofs.Words.{put_word}
+use Rattle.ephemeris.proofs.covariance_elements_at.Given as goal
+
+abbrev pub invariant-loop-i : goal.invariant-loop-i
+invariant-loop-i l = (l.i ≤ 21) × (l.v ≡ words_at l.s l.at l.i ++ replicate (21 - l.i) 0)
+
+abbrev pub decreases-loop-i : goal.decreases-loop-i
+decreases-loop-i l = 21 - l.i

@@ -1,0 +1,13 @@
+-- `usable_refusal` meets its contract, by the case of the answer.
+-- Assumes nothing.
+use borrow.Author.Rules.{rules}
+use Rattle.metadata.specs.Metadata.{usable_refusal}
+use Rattle.metadata.proofs.usable_refusal.Goals as goal
+
+pub returns-in-Read : goal.returns-in-Read
+unfolding usable_refusal
+returns-in-Read c = rw c.in-Read.is
+
+pub returns-in-Refused : goal.returns-in-Refused
+unfolding usable_refusal
+returns-in-Refused c = rw c.in-Refused.is
