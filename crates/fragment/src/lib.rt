@@ -1,4 +1,6 @@
 // Table id 1: a cell fragment, from the bits at a place.
+#![tactic(auto)]
+
 ghost use Rattle.std.specs.Prelude.{◌≡◌};
 ghost use Rattle.bits.specs.Read.{Place, Room};
 ghost use Rattle.fragment.specs.Fragment.{fragment_at, fragment_refusal};

@@ -1,5 +1,7 @@
 // The ledger of a body under its table id, in either edition. The content is gone through twice: first with no buffer,
 // for its size or the refusal, and then with the buffer that is lent; a raw body's size is known without.
+#![tactic(auto)]
+
 ghost use Rattle.std.specs.Prelude.{◌≡◌, ◌+◌, ◌%◌, ◌≤◌, length};
 ghost use Rattle.format.specs.Syntax.{end, edition_1, edition_2};
 ghost use Rattle.format.specs.Whole.{edition_for};

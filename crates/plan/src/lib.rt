@@ -1,4 +1,6 @@
 // Table id 3: beamhopping time plans.
+#![tactic(auto)]
+
 ghost use Rattle.std.specs.Prelude.{◌≡◌, ◌%◌};
 ghost use Rattle.bits.specs.Read.{Place};
 ghost use Rattle.plan.specs.Plan.{plan_refusal, plan_made, plan_closed, fields_at, plan_at};

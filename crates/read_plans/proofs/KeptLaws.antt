@@ -39,9 +39,9 @@ two_bytes l p b h =
     let z : value 256 (take 2 (drop p l)) < 256 ^ 2 = rw (length-take-le 2 (drop p l) (omega (arith, length-drop p l))) at (value_lt 256 (take 2 (drop p l)) (below_take 256 2 (drop p l) (below_drop 256 p l b))) in
     omega arith
 
-leaves_by : {l : Bool} {us : List Field} → Good l true (before hopping) us → (b : Bool) (v f : ℕ) → leaves b v us f ≡ leaves_by b v (length (kept us)) f (the "time_plan_mode" us)
+leaves_by_lem : {l : Bool} {us : List Field} → Good l true (before hopping) us → (b : Bool) (v f : ℕ) → leaves b v us f ≡ leaves_by b v (length (kept us)) f (the "time_plan_mode" us)
 unfolding leaves_by
-leaves_by g b v f = rw (hopping_left g true f, hopping_left g false f)
+leaves_by_lem g b v f = rw (hopping_left g true f, hopping_left g false f)
 
 fine_hopping : Fine true 48 9 hopping
 unfolding beamhopping
@@ -94,7 +94,7 @@ plan_of_lem b l nm p₀ p₂ p₃ gs hs h e d =
       fs = fs;
       fields = o.1;
       filling = r.1;
-      test = leaves_by g.good b v (length fs) ∙ ap (leaves_by b v (length (kept us)) (length fs)) m;
+      test = leaves_by_lem g.good b v (length fs) ∙ ap (leaves_by b v (length (kept us)) (length fs)) m;
       reads = plan_field b n nm hopping bs ∙ ap (λ (p : Parse (List Field)). and_then p (behind_length (read_filler b n nm))) (e ∙ ap (λ (t : List Field). got t (drop p₂ l)) o.1)
           ∙ filler_raw b n nm v us (drop p₂ l) ∙ ap (λ (p : Parse (List Field)). and_then p (behind_raw (λ ys rest. cond (leaves b v us (length ys)) (got (planned nm v us ys) rest) (refused 28 (n - length (drop 2 (drop p₂ l))) 0))))
           (d ∙ ap (λ (t : List Field). got t (drop p₃ l)) r.1);

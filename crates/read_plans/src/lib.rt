@@ -1,4 +1,6 @@
 // Id 3: a beam hopping time plan of a ledger, laid as the bits of a body.
+#![tactic(auto)]
+
 ghost use Rattle.std.specs.Prelude.{◌≡◌, ◌+◌, ◌*◌, ◌≤◌, ◌<◌, length};
 ghost use Rattle.format.specs.Digits.{bits_of};
 ghost use Rattle.format.specs.Syntax.{Name, Syntax, end, slots, raw};

@@ -1,0 +1,17 @@
+-- `write_entries`: an entry more a turn, and the count at the end.
+-- Assumes nothing.
+use Prim.Native.Nat.{◌-◌, ◌*◌}
+use native.Mathlib.Omega.{arith}
+use borrow.Author.Rules.{rules}
+use lib.ListN.{length}
+use Rattle.format.specs.Whole.{edition_for}
+use Rattle.write_runs.proofs.Lent.{lent}
+use Rattle.write_runs.proofs.WentLaws.{done, stopped}
+use Rattle.ledger_writer.proofs.Listing.{Listing, begin, turn, stop, listed_no, ended}
+use Rattle.ledger_writer.proofs.write_entries.Given as goal
+
+abbrev pub invariant-loop-at : goal.invariant-loop-at
+invariant-loop-at l = Listing (edition_for l.version) l.body l.table_id l.start l.place l.initial.out l.at l.there l.count l.out
+
+abbrev pub decreases-loop-at : goal.decreases-loop-at
+decreases-loop-at l = 8 * length l.body - l.at
