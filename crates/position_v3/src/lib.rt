@@ -1,4 +1,6 @@
 // Table id 4: the header and a satellite of satellite_position_v3_info.
+#![tactic(auto)]
+
 ghost use Rattle.std.specs.Prelude.{◌≡◌, ◌%◌, ◌≤◌, length};
 ghost use Rattle.bits.specs.Read.{Place};
 ghost use Rattle.position_v3.specs.PositionV3.{header_at, header_refusal, flags_at, flags_refusal, front_at, front_refusal, read_v3_at, refused_v3, satellite_v3_refusal, elements_before, Tail};

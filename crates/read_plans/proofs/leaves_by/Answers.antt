@@ -3,6 +3,8 @@
 use borrow.Author.Rules.{rules}
 use borrow.Author.Tests.{eq-eqb, ne_eqb, lt-ltb, le-ltb, not-true, not-false}
 use Rattle.read_plans.specs.Taken.{leaves_by}
+use mathlib.Core.Path.{ap}
+use mathlib.Core.Bool.{not}
 use Rattle.read_plans.proofs.leaves_by.Goals as goal
 
 pub returns-then-mode-eq3 : goal.returns-then-mode-eq3
@@ -15,16 +17,16 @@ returns-then-there-length c = rw (eq-eqb _ _ c.if-there-length.true, ne_eqb _ _ 
 
 pub returns-then-not-last : goal.returns-then-not-last
 unfolding leaves_by
-returns-then-not-last c = rw (ne_eqb _ _ c.if-there-length.false, not-true c.args.last c.if-not-last.true)
+returns-then-not-last c = rw (ne_eqb _ _ c.if-there-length.false, not-true c.args.last (ap not c.if-not-last.true))
 
 pub returns-then-mode-eq3-2 : goal.returns-then-mode-eq3-2
 unfolding leaves_by
-returns-then-mode-eq3-2 c = rw (ne_eqb _ _ c.if-there-length.false, not-false c.args.last c.if-not-last.false, lt-ltb _ _ c.if-there-length-2.true, eq-eqb _ _ c.if-mode-eq3-2.true)
+returns-then-mode-eq3-2 c = rw (ne_eqb _ _ c.if-there-length.false, not-false c.args.last (ap not c.if-not-last.false), lt-ltb _ _ c.if-there-length-2.true, eq-eqb _ _ c.if-mode-eq3-2.true)
 
 pub returns-then-there-length-2 : goal.returns-then-there-length-2
 unfolding leaves_by
-returns-then-there-length-2 c = rw (ne_eqb _ _ c.if-there-length.false, not-false c.args.last c.if-not-last.false, lt-ltb _ _ c.if-there-length-2.true, ne_eqb _ _ c.if-mode-eq3-2.false)
+returns-then-there-length-2 c = rw (ne_eqb _ _ c.if-there-length.false, not-false c.args.last (ap not c.if-not-last.false), lt-ltb _ _ c.if-there-length-2.true, ne_eqb _ _ c.if-mode-eq3-2.false)
 
 pub returns : goal.returns
 unfolding leaves_by
-returns c = rw (ne_eqb _ _ c.if-there-length.false, not-false c.args.last c.if-not-last.false, le-ltb _ _ c.if-there-length-2.false)
+returns c = rw (ne_eqb _ _ c.if-there-length.false, not-false c.args.last (ap not c.if-not-last.false), le-ltb _ _ c.if-there-length-2.false)

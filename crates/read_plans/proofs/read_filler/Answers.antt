@@ -36,7 +36,7 @@ leaves_by-requires c =
     let pre = c.requires in
     let f = done c.in-Done.is (c.read_raw-filler.ensures (way_of edition_2 a.last) "filler") in
     let b = below_of 256 a.ledger.now (λ i. omega (arith, c.shared_slice_known-1.given i)) in
-    let s = two_bytes a.ledger.now a.length-place b (omega (arith, pre.length_at_bound, pre.ledger_placed.within)) in
+    let s = two_bytes a.ledger.now a.length_place b (omega (arith, pre.length_at_bound, pre.ledger_placed.within)) in
     (omega (arith, s, c.get_be-length.ensures), omega (arith, pre.ledger_placed.behind, pre.ledger_placed.within, pre.ledger_placed.short), omega (arith, f.slack, f.within, pre.ledger_placed.behind, pre.ledger_placed.short))
 
 pub returns-then-leaves_by : goal.returns-then-leaves_by
