@@ -1,0 +1,13 @@
+-- `flags_refusal` meets its contract, by the case of the answer.
+-- Assumes nothing.
+use borrow.Author.Rules.{rules}
+use Rattle.position_v3.specs.PositionV3.{flags_refusal}
+use Rattle.position_v3.proofs.flags_refusal.Goals as goal
+
+pub returns-in-Read : goal.returns-in-Read
+unfolding flags_refusal
+returns-in-Read c = rw c.in-Read.is
+
+pub returns-in-Refused : goal.returns-in-Refused
+unfolding flags_refusal
+returns-in-Refused c = rw c.in-Refused.is
