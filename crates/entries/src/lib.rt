@@ -1,5 +1,7 @@
 // Going through the entries of a body, whatever its table: how many there are, where one of them starts, and where the
 // last one ends.
+#![tactic(auto)]
+
 ghost use Rattle.std.specs.Prelude.{◌≡◌, ℕ, ◌-◌, ◌*◌, ◌%◌, ◌≤◌, length, drop};
 ghost use Rattle.format.specs.Digits.{bits_of};
 ghost use Rattle.format.specs.Tables.{position, fragment, beamhopping, position3};

@@ -1,4 +1,6 @@
 // The ids of a body's entries, each different one once, in the order of first entries.
+#![tactic(auto)]
+
 ghost use Rattle.std.specs.Prelude.{◌≡◌, List, [], ℕ, ◌-◌, ◌*◌, ◌%◌, ◌≤◌, ◌<◌, length, take, drop};
 ghost use Rattle.format.specs.Digits.{bits_of, value_at, splice};
 ghost use Rattle.format.specs.Whole.{layout, entries};

@@ -67,6 +67,7 @@ module _ {ed : Edition} {l out out' : List ℕ} where
       record { to = record { what = one w.ts; reads = rw w.reads; size = w.size; bits = w.bits; within = w.within } }
   sole_holds {r = Refused f} x = record { to = record { reads = rw x.to.reads } }
 
+module _ (ed : Edition) {l out out' : List ℕ} where
   -- raw bytes
   pub opaque_holds : 4 ≤ length l → out' ≡ stored out 0 (drop 4 l)
       → Held (bits_in ed) l (fields_as ed (length l) opaque (drop 4 l)) 0 out (length l) (8 * (length l - 4)) out'

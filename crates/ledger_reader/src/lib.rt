@@ -1,6 +1,8 @@
 // The ledger reader: a ledger gone through from its first byte to its last, and laid as the body that it stands for:
 // plain in the first edition, kept in the second.
 // The same steps measure: with an empty buffer nothing is stored, and the answer is the same.
+#![tactic(auto)]
+
 ghost use Rattle.std.specs.Prelude.{◌≡◌, ◌||◌, ◌+◌, ◌%◌, ◌≤◌, eqb, length, drop};
 ghost use Rattle.format.specs.Refusals.{refuse};
 ghost use Rattle.format.specs.Whole.{layout, laids, counted, content_as, known, edition_for};
