@@ -1,5 +1,7 @@
 // The plain body and the kept body of a body under its table id. The way goes through the body's ledger, in edition 1
 // and in edition 2, in a buffer that has room for every ledger.
+#![tactic(auto)]
+
 ghost use Rattle.std.specs.Prelude.{◌≡◌, length};
 ghost use Rattle.format.specs.Syntax.{edition_1, edition_2};
 ghost use Rattle.format.specs.Whole.{edition_for};

@@ -1,5 +1,7 @@
 // What a caller gets of a body under its table id: the whole body by the Rust's call, its lists as parts of the bytes;
 // and one by one the number of entries, the header under id 4, and the entry at an index.
+#![tactic(auto)]
+
 ghost use Rattle.std.specs.Prelude.{◌≡◌, ◌%◌, ◌≤◌, length};
 ghost use Rattle.bits.specs.Read.{Place};
 ghost use Rattle.entries.specs.Entries.{head_end};
