@@ -44,6 +44,8 @@ module _ (id : ℕ) (b : List ℕ) where
       go : (p : Parse Table) (q : Parse (List ℕ)) → Agree p q → walked.Refused g ≡ seek b i walked.Entries walked.Refused q → p ≡ refused g.number g.need g.have
       go (got t r) (got ps s) (counted e) z = let o : ◌≡◌ {A = ℕ} 0 1 = cc in absurd (omega arith)
       go (refused u v w) (refused u' v' w') refuses z = let y : g ≡ refuse u v w = cc in rw y
+      go (got t r) (refused u' v' w') x4 z = elim x4 [ ]
+      go (refused u v w) (got ps s) x4 z = elim x4 [ ]
 
   pub gathered_no : {g : Refusal} (i : ℕ) (kept : List ℕ) → walked.Refused g ≡ seek b i walked.Entries walked.Refused (body_starts id b)
       → Gathered id (ids_of id b) (answers.Refused g) kept
@@ -58,6 +60,8 @@ module _ (id : ℕ) (b : List ℕ) where
       go : (x : Parse Table) (q : Parse (List ℕ)) → Agree x q → walked.Entries c p e ≡ seek b i walked.Entries walked.Refused q → (t : Table) × (r : List ℕ) × (x ≡ got t r)
       go (got t r) (got ps s) (counted e) z = (t, r, refl)
       go (refused u v w) (refused u' v' w') refuses z = let o : ◌≡◌ {A = ℕ} 0 1 = cc in absurd (omega arith)
+      go (got t r) (refused u' v' w') x5 z = elim x5 [ ]
+      go (refused u v w) (got ps s) x5 z = elim x5 [ ]
 
   -- ---- a body that is no list
 

@@ -20,3 +20,4 @@ pub mod StartLaws
 pub mod AgreeLaws
 pub mod PlanLaws
 pub mod IdLaws
+pub mod SamplesHold

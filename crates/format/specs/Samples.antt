@@ -1,5 +1,5 @@
--- Document 01's samples P1 to P12, and samples of ledgers of both editions and of clocks' extensions: each list is
--- shown whole, by computation.
+-- Document 01's samples P1 to P12, and samples of ledgers of both editions and of clocks' extensions: that each list
+-- holds is shown in proofs/SamplesHold, by computation.
 -- Assumes nothing.
 use Rattle.std.specs.Prelude.{ℕ, ◌+◌, ◌≡◌, refl, List, [], ◌∷◌, ◌++◌, map, ℤ, pos, negsuc, length, replicate}
 use Rattle.format.specs.Digits.{digits, value, bits_of, bytes_of, twos, splice}
@@ -42,18 +42,18 @@ AllHold [] = Unit {0}
 AllHold (s ∷ ss) = Holds s × AllHold ss
 
 -- a plan of 31 bytes, all zero but for its plan_length
-abbrev plan31 : ℕ → List ℕ
+abbrev pub plan31 : ℕ → List ℕ
 plan31 k = replicate 4 0 ++ digits 256 2 k ++ replicate 25 0
 
 -- its ledger: 6 bytes, and 51 of fields
-abbrev plan31_ledger : List ℕ
+abbrev pub plan31_ledger : List ℕ
 plan31_ledger = 0 ∷ 55 ∷ 1 ∷ 3 ∷ 0 ∷ 1 ∷ replicate 51 0
 
 -- a fragment with its centre: an id, the flags with four reserved bits, and the latitude from the byte's last two bits on
-abbrev fragment19 : ℕ → ℕ → List ℕ
+abbrev pub fragment19 : ℕ → ℕ → List ℕ
 fragment19 x y = replicate 4 0 ++ (x ∷ y ∷ y ∷ replicate 12 0)
 
-pub p1_to_p12 : List Sample
+unfoldable pub p1_to_p12 : List Sample
 p1_to_p12 =
     files edition_1 0 [] (0 ∷ 4 ∷ 1 ∷ 0 ∷ 0 ∷ 0 ∷ []) ∷
     refuses edition_1 0 (0 ∷ 0 ∷ 7 ∷ 1 ∷ 1 ∷ 0x20 ∷ []) 4 344 16 ∷
@@ -69,29 +69,25 @@ p1_to_p12 =
     latitudes (fragment19 0x81 0xff) (pos 131071 ∷ []) ∷
     []
 
-pub samples_hold : AllHold p1_to_p12
-unfolding p1_to_p12 filed relaid body_read_as read_as walk read_body bits_of bytes_of digits value ledger_of content_of body_of laids ledgers ledger laid position fragment association beamhopping header position3 entries_of first_by twos
-samples_hold = (refl, ((refl, refl), (refl, (refl, ((refl, refl), ((refl, refl), ((refl, refl), (refl, (refl, (refl, (refl, (refl, tt))))))))))))
-
 -- ---- ledgers: each refusal with its place
 
 -- a ledger of right length around some content, in an edition
-abbrev framed : Edition → ℕ → List ℕ → List ℕ
+abbrev pub framed : Edition → ℕ → List ℕ → List ℕ
 framed ed id content = digits 256 2 (length content + 2) ++ (version ed ∷ id ∷ content)
 
 -- one satellite under id 0: satellite_id from place 6, west_east_flag at place 14
-abbrev satellite : ℕ → ℕ → List ℕ
+abbrev pub satellite : ℕ → ℕ → List ℕ
 satellite x flag = framed edition_1 0 (0 ∷ 1 ∷ x ∷ 0 ∷ 0 ∷ 7 ∷ 0 ∷ 0 ∷ 1 ∷ 0x20 ∷ flag ∷ 0 ∷ [])
 
 -- one plan under id 3 of a mode, whose own fields start at place 35
-abbrev plan_ledger : ℕ → List ℕ → List ℕ
+abbrev pub plan_ledger : ℕ → List ℕ → List ℕ
 plan_ledger m fields = framed edition_1 3 (0 ∷ 1 ∷ replicate 6 0 ++ (m ∷ replicate 22 0) ++ fields)
 
 -- one fragment under id 1 with its centre; the latitude's four bytes from place 13 on
-abbrev centred : List ℕ → List ℕ
+abbrev pub centred : List ℕ → List ℕ
 centred latitude = framed edition_1 1 (0 ∷ 1 ∷ replicate 4 0 ++ (1 ∷ 0 ∷ 0 ∷ latitude) ++ replicate 20 0)
 
-pub ledger_samples : List Sample
+unfoldable pub ledger_samples : List Sample
 ledger_samples =
     -- fewer than four bytes, a wrong length, another version
     denies (0 ∷ 1 ∷ 1 ∷ []) 23 0 0 ∷
@@ -117,40 +113,35 @@ ledger_samples =
     denies (framed edition_1 5 (replicate 4097 0)) 26 4097 4096 ∷
     []
 
-pub ledger_samples_hold : AllHold ledger_samples
-unfolding ledger_samples restored ledger_read content_as counted read_ledger body_of laids laid bits_of bytes_of digits value position fragment association beamhopping header position3
-ledger_samples_hold =
-    (refl, (refl, (refl, (refl, (refl, (refl, ((refl, refl), (refl, (refl, (refl, (refl, (refl, ((refl, refl), (refl, ((refl, refl), (refl, tt))))))))))))))))
-
 -- ---- edition 2
 
 -- a plan of edition 2: plan_length, mode, the mode's fields, filler. The first one's plan_length is at place 11, its
 -- mode's fields start at 37.
-abbrev plan2 : ℕ → ℕ → List ℕ → List ℕ → List ℕ
+abbrev pub plan2 : ℕ → ℕ → List ℕ → List ℕ → List ℕ
 plan2 v m fields fs = replicate 5 0 ++ digits 256 2 v ++ (0 ∷ m ∷ replicate 22 0) ++ fields ++ digits 256 2 (length fs) ++ fs
 
 -- mode 0: its two clocks, 12 bytes of a body, are 22 of a ledger; what follows the filler's count is at place 61
-abbrev dwelt : ℕ → List ℕ → List ℕ
+abbrev pub dwelt : ℕ → List ℕ → List ℕ
 dwelt v fs = plan2 v 0 (replicate 22 0) fs
 
 -- a ledger of one plan, and of two
-abbrev alone : List ℕ → List ℕ
+abbrev pub alone : List ℕ → List ℕ
 alone p = framed edition_2 3 (0 ∷ 1 ∷ p)
 
-abbrev pair : List ℕ → List ℕ → List ℕ
+abbrev pub pair : List ℕ → List ℕ → List ℕ
 pair p q = framed edition_2 3 (0 ∷ 2 ∷ p ++ q)
 
 -- a body's plan of a mode: 13 bytes and others; of mode 3; and of mode 1, with three slots and one byte of filler
-abbrev plan_bytes : ℕ → ℕ → List ℕ → List ℕ
+abbrev pub plan_bytes : ℕ → ℕ → List ℕ → List ℕ
 plan_bytes v m rest = replicate 4 0 ++ digits 256 2 v ++ (m ∷ replicate 12 0) ++ rest
 
-abbrev raw_plan : ℕ → List ℕ → List ℕ
+abbrev pub raw_plan : ℕ → List ℕ → List ℕ
 raw_plan v rest = plan_bytes v 3 rest
 
-abbrev slot_plan : ℕ → List ℕ
+abbrev pub slot_plan : ℕ → List ℕ
 slot_plan packed = plan_bytes 19 1 (0 ∷ 3 ∷ 0 ∷ 2 ∷ packed ∷ 0xab ∷ [])
 
-pub edition_2_samples : List Sample
+unfoldable pub edition_2_samples : List Sample
 edition_2_samples =
     files edition_2 0 [] (0 ∷ 4 ∷ 2 ∷ 0 ∷ 0 ∷ 0 ∷ []) ∷
     -- P8 and P9 differ now, in plan_length; remarks are kept, and so are those of a plan that ends past the data; bytes
@@ -197,39 +188,34 @@ edition_2_samples =
     denies (alone (dwelt 4091 (replicate 4066 0))) 26 4097 4096 ∷
     []
 
-pub edition_2_samples_hold : AllHold edition_2_samples
-unfolding edition_2_samples filed relaid body_read_as read_as walk read_body ledger_of content_of ledgers ledger restored ledger_read content_as counted read_ledger body_of laids laid bits_of bytes_of digits value position beamhopping
-edition_2_samples_hold =
-    (refl, (refl, (refl, (refl, (refl, (refl, (refl, (refl, (refl, (refl, (refl, ((refl, refl), ((refl, refl), ((refl, refl), ((refl, refl), ((refl, refl), ((refl, refl), ((refl, refl), (refl, (refl, (refl, (refl, (refl, (refl, (refl, (refl, (refl, (refl, (refl, (refl, (refl, tt)))))))))))))))))))))))))))))))
-
 -- ---- S-23, extensions above 299: a body with one is refused, a ledger with one is read
 
 -- a clock of base 0 and extension 256 + x, and one of extension 0
-abbrev clock_of : ℕ → List ℕ
+abbrev pub clock_of : ℕ → List ℕ
 clock_of x = replicate 4 0 ++ (1 ∷ x ∷ [])
 
-abbrev clock0 : List ℕ
+abbrev pub clock0 : List ℕ
 clock0 = replicate 6 0
 
 -- a time association, and its ledger: the extension is at place 15
-abbrev associated : ℕ → List ℕ
+abbrev pub associated : ℕ → List ℕ
 associated x = 0 ∷ clock_of x ++ replicate 12 0
 
-abbrev associated_ledger : Edition → ℕ → List ℕ
+abbrev pub associated_ledger : Edition → ℕ → List ℕ
 associated_ledger ed x = framed ed 2 (replicate 11 0 ++ (1 ∷ x ∷ replicate 12 0))
 
 -- a fragment without a centre, of n new and m obsolescent delivery systems; and a system with a clock
-abbrev changing : ℕ → ℕ → List ℕ → List ℕ → List ℕ
+abbrev pub changing : ℕ → ℕ → List ℕ → List ℕ → List ℕ
 changing n m news olds = replicate 7 0 ++ (n ∷ news) ++ (0 ∷ m ∷ olds)
 
-abbrev system_of : List ℕ → List ℕ
+abbrev pub system_of : List ℕ → List ℕ
 system_of clock = replicate 4 0 ++ clock
 
 -- a plan of a length and a mode, and what stands behind these: clocks, of which the first two are those of every plan
-abbrev clocked : ℕ → ℕ → List ℕ → List ℕ
+abbrev pub clocked : ℕ → ℕ → List ℕ → List ℕ
 clocked v m clocks = replicate 4 0 ++ digits 256 2 v ++ (m ∷ clocks)
 
-pub extension_samples : List Sample
+unfoldable pub extension_samples : List Sample
 extension_samples =
     -- 299 is the last one
     files edition_1 2 (associated 43) (associated_ledger edition_1 43) ∷
@@ -260,18 +246,13 @@ extension_samples =
     restores (associated_ledger edition_2 255) 2 (associated 255) ∷
     []
 
-pub extension_samples_hold : AllHold extension_samples
-unfolding extension_samples filed relaid body_read_as read_as walk read_body ledger_of content_of ledgers ledger restored ledger_read content_as counted read_ledger body_of laids laid bits_of bytes_of digits value fragment association beamhopping
-extension_samples_hold =
-    (refl, (refl, ((refl, refl), ((refl, refl), ((refl, refl), ((refl, refl), ((refl, refl), ((refl, refl), ((refl, refl), ((refl, refl), ((refl, refl), ((refl, refl), ((refl, refl), ((refl, refl), (refl, (refl, ((refl, refl), ((refl, refl), ((refl, refl), ((refl, refl), tt))))))))))))))))))))
-
 -- ---- buffers: one byte short, and one byte more than the result
 
 -- a buffer with something in it
-abbrev used : ℕ → List ℕ
+abbrev pub used : ℕ → List ℕ
 used n = replicate n 0xee
 
-pub call_samples : List Sample
+unfoldable pub call_samples : List Sample
 call_samples =
     writes 0 [] (used 5) (Refused (refuse 22 6 5)) (used 5) ∷
     writes 0 [] (used 7) (Done 0 6) (0 ∷ 4 ∷ 1 ∷ 0 ∷ 0 ∷ 0 ∷ 0xee ∷ []) ∷
@@ -280,7 +261,3 @@ call_samples =
     reads (satellite 0 1) (used 8) (Done 0 7) (0 ∷ 0 ∷ 7 ∷ 0 ∷ 1 ∷ 0x20 ∷ 0x80 ∷ 0xee ∷ []) ∷
     reads (satellite 1 1) (used 6) (Refused (refuse 25 6 0)) (used 6) ∷
     []
-
-pub call_samples_hold : AllHold call_samples
-unfolding call_samples write_answer write_left read_answer read_left answer left splice filed body_read_as read_as walk read_body ledger_of content_of laids ledgers ledger laid restored ledger_read content_as counted read_ledger body_of bits_of bytes_of digits value position association
-call_samples_hold = ((refl, refl), ((refl, refl), ((refl, refl), ((refl, refl), ((refl, refl), ((refl, refl), tt))))))

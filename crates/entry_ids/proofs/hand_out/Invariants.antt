@@ -1,0 +1,16 @@
+-- `hand_out` meets its contract. The loop's invariant: the first ids are copied.
+-- Assumes nothing.
+use mathlib.Core.Path.{◌≡◌, refl, ap, ◌∙◌}
+use Prim.Native.Nat.{ℕ, ◌-◌, ◌≤◌}
+use mathlib.Core.List.{List}
+use native.Mathlib.Omega.{arith}
+use lib.ListN.{length, set, get_or, length-set}
+use lib.Seq.{paste}
+use Rattle.entry_ids.proofs.Lists.{paste_step, paste_splice}
+use Rattle.entry_ids.proofs.hand_out.Given as goal
+
+abbrev pub invariant-loop-i : goal.invariant-loop-i
+invariant-loop-i l = (l.i ≤ l.count) × (l.out ≡ paste l.initial.out 0 l.ids l.i) × (length l.out ≡ length l.initial.out)
+
+abbrev pub decreases-loop-i : goal.decreases-loop-i
+decreases-loop-i l = l.count - l.i

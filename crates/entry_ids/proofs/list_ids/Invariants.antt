@@ -1,0 +1,16 @@
+-- `list_ids` meets its contract. The loop's invariant: of the ids passed each is gathered where it first stands.
+-- Assumes nothing.
+use mathlib.Core.Path.{◌≡◌, refl, sym, ◌∙◌}
+use Prim.Native.Nat.{◌-◌, ◌*◌}
+use native.Mathlib.Omega.{arith}
+use borrow.Author.Rules.{rules}
+use lib.ListN.{length}
+use Rattle.entries.proofs.Ends.{told}
+use Rattle.entry_ids.proofs.Walks.{Kept, kept_first, kept_room, kept_word, kept_next, kept_less, kept_over, kept_stop}
+use Rattle.entry_ids.proofs.list_ids.Given as goal
+
+abbrev pub invariant-loop-at : goal.invariant-loop-at
+invariant-loop-at l = Kept l.table_id l.s l.start l.at l.count l.ids × (length l.ids ≡ length l.initial.ids)
+
+abbrev pub decreases-loop-at : goal.decreases-loop-at
+decreases-loop-at l = 8 * length l.s - l.at
