@@ -2,6 +2,8 @@
 // call that fills a buffer returns 0 or the refusal's number; the further calls take the same bytes and the buffer's
 // length, write nothing, and give the answer's other numbers, 0 where there is none. The order of clocks refuses
 // nothing.
+#![tactic(auto)]
+
 ghost use Rattle.std.specs.Prelude.{◌≡◌, length};
 ghost use Rattle.format.specs.Syntax.{edition_1, edition_2};
 ghost use Rattle.format.specs.Calls.{number_of, need_of, have_of, table_id_of, length_of, write_answer, write_left, read_answer, read_left};
