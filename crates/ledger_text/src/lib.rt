@@ -1,4 +1,6 @@
 // The lines that the programs print: bytes in hexadecimal, and a refusal; stored in a buffer that the caller lends.
+#![tactic(auto)]
+
 ghost use Rattle.std.specs.Prelude.{◌≡◌, ◌+◌, ◌*◌, ◌/◌, ◌%◌, ◌≤◌, ◌<◌, length, drop};
 ghost use Rattle.format.specs.Digits.{splice};
 ghost use Rattle.ledger_text.specs.Text.{hex_digit, hex_text, hex_line, decimal, refusal_line, Stored, Numbered};

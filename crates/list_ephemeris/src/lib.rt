@@ -1,15 +1,19 @@
 // Table id 4: the header, and a satellite with its metadata, its ephemerides and its covariance.
+#![tactic(auto)]
+
 use clocks::Stamp;
 use ephemeris::{
     CovarianceData, EphemerisData, EphemerisDataAnswer, MaybeCovariance, MaybeEphemerisAccel,
     ephemeris_data_at,
 };
-use list_text::{Path, absent, element, field_8, field_32, flag, list, stamp, under, value_line};
+use list_text::{
+    Path, Text, absent, element, field_8, field_32, flag, list, stamp, under, value_line,
+};
 use metadata::{MaybeMetadata, MaybeUsableTime, PositionV3Metadata};
 use parts::Part;
 use position_v3::{PositionV3Header, PositionV3Satellite};
 
-pub fn show_header(out: &mut [u8; 8192], used: usize, at: Path, h: PositionV3Header) -> usize {
+pub fn show_header(out: &mut Text, used: usize, at: Path, h: PositionV3Header) -> usize {
     let date = Stamp {
         year: h.creation_date_year,
         reserved: h.creation_date_reserved_zero_future_use,
@@ -23,7 +27,7 @@ pub fn show_header(out: &mut [u8; 8192], used: usize, at: Path, h: PositionV3Hea
 
 // A satellite; the elements of its covariance are handed over beside it.
 pub fn show(
-    out: &mut [u8; 8192],
+    out: &mut Text,
     used: usize,
     at: Path,
     body: &[u8],
@@ -41,7 +45,7 @@ pub fn show(
 }
 
 // The id and the flags.
-fn show_front(out: &mut [u8; 8192], used: usize, at: Path, s: PositionV3Satellite) -> usize {
+fn show_front(out: &mut Text, used: usize, at: Path, s: PositionV3Satellite) -> usize {
     let metadata = s.metadata;
     let kept = s.reserved_zero_future_use;
     let start = s.usable_start_time_flag;
@@ -63,19 +67,14 @@ fn is_there(metadata: MaybeMetadata) -> bool {
     }
 }
 
-fn show_metadata(out: &mut [u8; 8192], used: usize, at: Path, metadata: MaybeMetadata) -> usize {
+fn show_metadata(out: &mut Text, used: usize, at: Path, metadata: MaybeMetadata) -> usize {
     match metadata {
         MaybeMetadata::Some(m) => show_found_metadata(out, used, under(at, b"metadata"), m),
         MaybeMetadata::None => absent(out, used, at, b"metadata"),
     }
 }
 
-fn show_found_metadata(
-    out: &mut [u8; 8192],
-    used: usize,
-    at: Path,
-    m: PositionV3Metadata,
-) -> usize {
+fn show_found_metadata(out: &mut Text, used: usize, at: Path, m: PositionV3Metadata) -> usize {
     let kind = m.interpolation_type;
     let degree = m.interpolation_degree;
     let kept = m.reserved_zero_future_use;
@@ -90,7 +89,7 @@ fn show_found_metadata(
     show_usable(out, used, at, b"usable_stop_time", to)
 }
 
-fn show_total_times(out: &mut [u8; 8192], used: usize, at: Path, m: PositionV3Metadata) -> usize {
+fn show_total_times(out: &mut Text, used: usize, at: Path, m: PositionV3Metadata) -> usize {
     let first = Stamp {
         year: m.total_start_time_year,
         reserved: m.total_start_time_reserved_zero_future_use,
@@ -108,17 +107,11 @@ fn show_total_times(out: &mut [u8; 8192], used: usize, at: Path, m: PositionV3Me
 }
 
 // A stamp whose reserved bits have its stem too.
-fn show_date(out: &mut [u8; 8192], used: usize, at: Path, stem: &[u8], date: Stamp) -> usize {
+fn show_date(out: &mut Text, used: usize, at: Path, stem: &[u8], date: Stamp) -> usize {
     stamp(out, used, at, stem, stem, date)
 }
 
-fn show_usable(
-    out: &mut [u8; 8192],
-    used: usize,
-    at: Path,
-    name: &[u8],
-    time: MaybeUsableTime,
-) -> usize {
+fn show_usable(out: &mut Text, used: usize, at: Path, name: &[u8], time: MaybeUsableTime) -> usize {
     match time {
         MaybeUsableTime::Some(t) => {
             let time = Stamp {
@@ -134,7 +127,7 @@ fn show_usable(
 }
 
 fn show_ephemerides(
-    out: &mut [u8; 8192],
+    out: &mut Text,
     used: usize,
     at: Path,
     body: &[u8],
@@ -151,7 +144,7 @@ fn show_ephemerides(
     used
 }
 
-fn show_ephemeris(out: &mut [u8; 8192], used: usize, at: Path, e: EphemerisData) -> usize {
+fn show_ephemeris(out: &mut Text, used: usize, at: Path, e: EphemerisData) -> usize {
     let epoch = Stamp {
         year: e.epoch_year,
         reserved: e.reserved_zero_future_use,
@@ -170,7 +163,7 @@ fn show_ephemeris(out: &mut [u8; 8192], used: usize, at: Path, e: EphemerisData)
 }
 
 fn show_acceleration(
-    out: &mut [u8; 8192],
+    out: &mut Text,
     used: usize,
     at: Path,
     acceleration: MaybeEphemerisAccel,
@@ -187,7 +180,7 @@ fn show_acceleration(
 }
 
 fn show_covariance(
-    out: &mut [u8; 8192],
+    out: &mut Text,
     used: usize,
     at: Path,
     covariance: MaybeCovariance,
@@ -203,7 +196,7 @@ fn show_covariance(
     }
 }
 
-fn show_covariance_epoch(out: &mut [u8; 8192], used: usize, at: Path, c: CovarianceData) -> usize {
+fn show_covariance_epoch(out: &mut Text, used: usize, at: Path, c: CovarianceData) -> usize {
     let epoch = Stamp {
         year: c.covariance_epoch_year,
         reserved: c.covariance_epoch_reserved_zero_future_use,
@@ -213,7 +206,7 @@ fn show_covariance_epoch(out: &mut [u8; 8192], used: usize, at: Path, c: Covaria
     show_date(out, used, at, b"covariance_epoch_", epoch)
 }
 
-fn show_elements(out: &mut [u8; 8192], used: usize, at: Path, elements: [u32; 21]) -> usize {
+fn show_elements(out: &mut Text, used: usize, at: Path, elements: [u32; 21]) -> usize {
     let mut used = used;
     for i in 0..21 {
         used = value_line(out, used, element(at, i), elements[i]);

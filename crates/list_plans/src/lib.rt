@@ -1,14 +1,16 @@
 // Table id 3: a beamhopping time plan.
+#![tactic(auto)]
+
 use clocks::Clock;
 use list_text::{
-    Path, bytes_field, bytes_of, clock, field_8, field_16, field_32, list, place, slots_field,
-    under,
+    Path, Text, bytes_field, bytes_of, clock, field_8, field_16, field_32, list, place,
+    slots_field, under,
 };
 use parts::Part;
 use plan::BeamhoppingPlan;
 use plan_modes::BeamhoppingMode;
 
-pub fn show(out: &mut [u8; 8192], used: usize, at: Path, body: &[u8], p: BeamhoppingPlan) -> usize {
+pub fn show(out: &mut Text, used: usize, at: Path, body: &[u8], p: BeamhoppingPlan) -> usize {
     let kind = p.time_plan_mode;
     let mode = p.mode;
     let start = Clock {
@@ -45,18 +47,12 @@ pub fn show(out: &mut [u8; 8192], used: usize, at: Path, body: &[u8], p: Beamhop
 }
 
 // A clock whose reserved bits have its stem too.
-fn show_clock(out: &mut [u8; 8192], used: usize, at: Path, stem: &[u8], time: Clock) -> usize {
+fn show_clock(out: &mut Text, used: usize, at: Path, stem: &[u8], time: Clock) -> usize {
     clock(out, used, at, stem, stem, time)
 }
 
 // What a mode has of its own. Of the three functions for modes 0 to 2, two write nothing.
-fn show_mode(
-    out: &mut [u8; 8192],
-    used: usize,
-    at: Path,
-    body: &[u8],
-    mode: BeamhoppingMode,
-) -> usize {
+fn show_mode(out: &mut Text, used: usize, at: Path, body: &[u8], mode: BeamhoppingMode) -> usize {
     if let BeamhoppingMode::Reserved(part) = mode {
         let at = under(at, b"Reserved");
         let used = list(out, used, at, part);
@@ -67,7 +63,7 @@ fn show_mode(
     show_grid(out, used, at, mode)
 }
 
-fn show_dwell(out: &mut [u8; 8192], used: usize, at: Path, mode: BeamhoppingMode) -> usize {
+fn show_dwell(out: &mut Text, used: usize, at: Path, mode: BeamhoppingMode) -> usize {
     let BeamhoppingMode::Mode0 {
         dwell_duration_base: base,
         dwell_duration_ext: ext,
@@ -85,13 +81,7 @@ fn show_dwell(out: &mut [u8; 8192], used: usize, at: Path, mode: BeamhoppingMode
     show_clock(out, used, at, b"on_time_", on)
 }
 
-fn show_bitmap(
-    out: &mut [u8; 8192],
-    used: usize,
-    at: Path,
-    body: &[u8],
-    mode: BeamhoppingMode,
-) -> usize {
+fn show_bitmap(out: &mut Text, used: usize, at: Path, body: &[u8], mode: BeamhoppingMode) -> usize {
     let BeamhoppingMode::Mode1 {
         bit_map_size,
         current_slot,
@@ -119,7 +109,7 @@ fn clock_of(base: u64, reserved: u8, ext: u16) -> Clock {
     }
 }
 
-fn show_grid(out: &mut [u8; 8192], used: usize, at: Path, mode: BeamhoppingMode) -> usize {
+fn show_grid(out: &mut Text, used: usize, at: Path, mode: BeamhoppingMode) -> usize {
     let BeamhoppingMode::Mode2 {
         grid_size_base,
         grid_size_ext,
@@ -147,7 +137,7 @@ fn show_grid(out: &mut [u8; 8192], used: usize, at: Path, mode: BeamhoppingMode)
     show_clock(out, used, at, b"sleep_duration_", duration)
 }
 
-fn show_slots(out: &mut [u8; 8192], used: usize, at: Path, body: &[u8], part: Part) -> usize {
+fn show_slots(out: &mut Text, used: usize, at: Path, body: &[u8], part: Part) -> usize {
     let used = place(out, used, at, part);
     slots_field(out, used, at, bytes_of(body, part), part.count)
 }

@@ -1,9 +1,9 @@
 // Table id 2: a time association.
 use association::{MaybeLeapInfo, TimeAssociationBody};
 use clocks::Clock;
-use list_text::{Path, absent, clock, field, field_8, field_32, flag, under};
+use list_text::{Path, Text, absent, clock, field, field_8, field_32, flag, under};
 
-pub fn show(out: &mut [u8; 8192], used: usize, at: Path, a: TimeAssociationBody) -> usize {
+pub fn show(out: &mut Text, used: usize, at: Path, a: TimeAssociationBody) -> usize {
     let kind = a.association_type;
     let leap = a.leap_info;
     let seconds = a.association_timestamp_seconds;
@@ -27,13 +27,7 @@ pub fn show(out: &mut [u8; 8192], used: usize, at: Path, a: TimeAssociationBody)
 }
 
 // The leap flags, or the reserved bits that are there in their place.
-fn show_leap(
-    out: &mut [u8; 8192],
-    used: usize,
-    at: Path,
-    leap: MaybeLeapInfo,
-    reserved: u8,
-) -> usize {
+fn show_leap(out: &mut Text, used: usize, at: Path, leap: MaybeLeapInfo, reserved: u8) -> usize {
     match leap {
         MaybeLeapInfo::Some(l) => {
             let at = under(at, b"leap_info");

@@ -2,7 +2,8 @@
 use clocks::Clock;
 use fragment::{CellCentre, CellFragment, MaybeCellCentre};
 use list_text::{
-    Path, absent, clock, element, field_8, field_32, flag, list, signed_field, under, value_line,
+    Path, Text, absent, clock, element, field_8, field_32, flag, list, signed_field, under,
+    value_line,
 };
 use parts::Part;
 use systems::{
@@ -10,7 +11,7 @@ use systems::{
     delivery_system_id_at, new_delivery_system_at, obsolescent_delivery_system_at,
 };
 
-pub fn show(out: &mut [u8; 8192], used: usize, at: Path, body: &[u8], f: CellFragment) -> usize {
+pub fn show(out: &mut Text, used: usize, at: Path, body: &[u8], f: CellFragment) -> usize {
     let centre = f.centre;
     let used = field_32(out, used, at, b"cell_fragment_id", f.cell_fragment_id);
     let used = flag(out, used, at, b"first_occurrence", f.first_occurrence);
@@ -21,7 +22,7 @@ pub fn show(out: &mut [u8; 8192], used: usize, at: Path, body: &[u8], f: CellFra
 
 // The centre, or the reserved bits that are there in its place.
 fn show_centre(
-    out: &mut [u8; 8192],
+    out: &mut Text,
     used: usize,
     at: Path,
     centre: MaybeCellCentre,
@@ -36,7 +37,7 @@ fn show_centre(
     }
 }
 
-fn show_found_centre(out: &mut [u8; 8192], used: usize, at: Path, c: CellCentre) -> usize {
+fn show_found_centre(out: &mut Text, used: usize, at: Path, c: CellCentre) -> usize {
     let used = field_8(
         out,
         used,
@@ -63,7 +64,7 @@ fn show_found_centre(out: &mut [u8; 8192], used: usize, at: Path, c: CellCentre)
     )
 }
 
-fn show_lists(out: &mut [u8; 8192], used: usize, at: Path, body: &[u8], f: CellFragment) -> usize {
+fn show_lists(out: &mut Text, used: usize, at: Path, body: &[u8], f: CellFragment) -> usize {
     let ids = f.delivery_system_ids;
     let new = f.new_delivery_systems;
     let old = f.obsolescent_delivery_systems;
@@ -90,14 +91,7 @@ fn show_lists(out: &mut [u8; 8192], used: usize, at: Path, body: &[u8], f: CellF
 }
 
 // A list of delivery systems: 0 for ids alone, 1 for new ones, 2 for obsolescent ones.
-fn show_systems(
-    out: &mut [u8; 8192],
-    used: usize,
-    at: Path,
-    body: &[u8],
-    part: Part,
-    kind: u8,
-) -> usize {
+fn show_systems(out: &mut Text, used: usize, at: Path, body: &[u8], part: Part, kind: u8) -> usize {
     let mut used = list(out, used, at, part);
     for i in 0..part.count {
         used = show_system(out, used, at, body, part, kind, i);
@@ -106,7 +100,7 @@ fn show_systems(
 }
 
 fn show_system(
-    out: &mut [u8; 8192],
+    out: &mut Text,
     used: usize,
     at: Path,
     body: &[u8],
@@ -125,14 +119,7 @@ fn show_system(
 }
 
 // An id is a value by itself, with no name behind its place in the list.
-fn show_id(
-    out: &mut [u8; 8192],
-    used: usize,
-    at: Path,
-    body: &[u8],
-    part: Part,
-    index: usize,
-) -> usize {
+fn show_id(out: &mut Text, used: usize, at: Path, body: &[u8], part: Part, index: usize) -> usize {
     let found = delivery_system_id_at(body, part, index);
     let MaybeDeliverySystemId::Id(id) = found else {
         return used;
@@ -140,14 +127,7 @@ fn show_id(
     value_line(out, used, element(at, index), id)
 }
 
-fn show_new(
-    out: &mut [u8; 8192],
-    used: usize,
-    at: Path,
-    body: &[u8],
-    part: Part,
-    index: usize,
-) -> usize {
+fn show_new(out: &mut Text, used: usize, at: Path, body: &[u8], part: Part, index: usize) -> usize {
     let found = new_delivery_system_at(body, part, index);
     let MaybeNewDeliverySystem::Some(s) = found else {
         return used;
@@ -168,7 +148,7 @@ fn show_new(
 }
 
 fn show_obsolescent(
-    out: &mut [u8; 8192],
+    out: &mut Text,
     used: usize,
     at: Path,
     body: &[u8],

@@ -1,8 +1,8 @@
 // Table id 0: a satellite and its position.
-use list_text::{Path, field_8, field_16, field_32, flag, under};
+use list_text::{Path, Text, field_8, field_16, field_32, flag, under};
 use position::{PositionSystem, PositionV2Satellite};
 
-pub fn show(out: &mut [u8; 8192], used: usize, at: Path, s: PositionV2Satellite) -> usize {
+pub fn show(out: &mut Text, used: usize, at: Path, s: PositionV2Satellite) -> usize {
     let system = s.position;
     let used = field_32(out, used, at, b"satellite_id", s.satellite_id);
     let used = field_8(
@@ -28,7 +28,7 @@ fn is_elements(system: PositionSystem) -> bool {
     true
 }
 
-fn show_position(out: &mut [u8; 8192], used: usize, at: Path, system: PositionSystem) -> usize {
+fn show_position(out: &mut Text, used: usize, at: Path, system: PositionSystem) -> usize {
     let PositionSystem::Orbital {
         orbital_position,
         west_east_flag,
@@ -48,7 +48,7 @@ fn show_position(out: &mut [u8; 8192], used: usize, at: Path, system: PositionSy
     )
 }
 
-fn show_elements(out: &mut [u8; 8192], used: usize, at: Path, system: PositionSystem) -> usize {
+fn show_elements(out: &mut Text, used: usize, at: Path, system: PositionSystem) -> usize {
     let PositionSystem::Sgp4 {
         epoch_year,
         day_of_the_year,

@@ -1,47 +1,65 @@
-// The text that sat_entries writes. It is gathered in `out`, of which `used` bytes are in use.
+// The text that sat_entries writes. It is gathered in a block, of which `used` bytes are in use.
 // It goes out when that is full.
 // A `used` of 8193 says that nothing more can be written: from then on all text is dropped.
+#![tactic(auto)]
+
 use clocks::{Clock, Stamp};
 use io::decimal;
 use parts::Part;
+use std::io::Stdout;
+
+// The text that has not gone out yet, and where it goes.
+#[derive(Drop)]
+pub struct Text {
+    pub block: [u8; 8192],
+    pub to: Stdout,
+}
 
 // The path of the field in hand, as `plans[2].mode`: the first `length` bytes of `text`. The longest path has 50.
-#[derive(Drop)]
+#[derive(Clone, Copy)]
 pub struct Path {
     pub text: [u8; 64],
     pub length: usize,
 }
 
-pub fn put(out: &mut [u8; 8192], used: usize, byte: u8) -> usize {
+// A text that begins.
+pub fn new_text(to: Stdout) -> Text {
+    Text {
+        block: [0; 8192],
+        to,
+    }
+}
+
+pub fn put(out: &mut Text, used: usize, byte: u8) -> usize {
     if used < 8192 {
-        out[used] = byte;
+        out.block[used] = byte;
         return used + 1;
     }
     if used > 8192 {
         return used;
     }
-    if !io::write_all(1, out) {
+    if out.to.write_all(&out.block).is_err() {
         return 8193;
     }
-    out[0] = byte;
+    out.block[0] = byte;
     1
 }
 
-fn write_start(text: &[u8], used: usize) {
+fn write_start(to: Stdout, text: &[u8], used: usize) {
     let part = Part {
         start: 0,
         length: used,
         count: used,
     };
-    io::write_all(1, bytes_of(text, part));
+    let _ = to.write_all(bytes_of(text, part));
 }
 
 // Writes what is left of the text.
-pub fn put_out(out: &[u8; 8192], used: usize) {
-    write_start(out, used);
+pub fn put_out(out: &Text, used: usize) {
+    write_start(out.to, &out.block, used);
 }
 
-pub fn put_text(out: &mut [u8; 8192], used: usize, text: &[u8]) -> usize {
+pub fn put_text(out: &mut Text, used: usize, text: &[u8]) -> usize {
     let mut used = used;
     for i in 0..text.len() {
         used = put(out, used, text[i]);
@@ -49,7 +67,7 @@ pub fn put_text(out: &mut [u8; 8192], used: usize, text: &[u8]) -> usize {
     used
 }
 
-pub fn put_number(out: &mut [u8; 8192], used: usize, value: u64) -> usize {
+pub fn put_number(out: &mut Text, used: usize, value: u64) -> usize {
     let mut text = [0u8; 20];
     let k = decimal(value, &mut text);
     put_text(out, used, &text[..k])
@@ -101,7 +119,7 @@ pub fn element(at: Path, index: usize) -> Path {
     Path { text, length }
 }
 
-fn put_path(out: &mut [u8; 8192], used: usize, at: Path) -> usize {
+fn put_path(out: &mut Text, used: usize, at: Path) -> usize {
     let mut used = used;
     let text = at.text;
     let length = at.length;
@@ -114,7 +132,7 @@ fn put_path(out: &mut [u8; 8192], used: usize, at: Path) -> usize {
 }
 
 // A field's name, which may have a stem of its own, behind its path; and the blank in front of its value.
-fn title(out: &mut [u8; 8192], used: usize, at: Path, stem: &[u8], name: &[u8]) -> usize {
+fn title(out: &mut Text, used: usize, at: Path, stem: &[u8], name: &[u8]) -> usize {
     let mut used = put_path(out, used, at);
     if at.length > 0 {
         used = put(out, used, b'.');
@@ -125,39 +143,32 @@ fn title(out: &mut [u8; 8192], used: usize, at: Path, stem: &[u8], name: &[u8]) 
 }
 
 // A field under a name with a stem, and its value.
-fn stemmed(
-    out: &mut [u8; 8192],
-    used: usize,
-    at: Path,
-    stem: &[u8],
-    name: &[u8],
-    value: u64,
-) -> usize {
+fn stemmed(out: &mut Text, used: usize, at: Path, stem: &[u8], name: &[u8], value: u64) -> usize {
     let used = title(out, used, at, stem, name);
     let used = put_number(out, used, value);
     put(out, used, b'\n')
 }
 
 // A field and its value.
-pub fn field(out: &mut [u8; 8192], used: usize, at: Path, name: &[u8], value: u64) -> usize {
+pub fn field(out: &mut Text, used: usize, at: Path, name: &[u8], value: u64) -> usize {
     stemmed(out, used, at, b"", name, value)
 }
 
 // The same for a value that has fewer bits.
-pub fn field_8(out: &mut [u8; 8192], used: usize, at: Path, name: &[u8], value: u8) -> usize {
+pub fn field_8(out: &mut Text, used: usize, at: Path, name: &[u8], value: u8) -> usize {
     field(out, used, at, name, value as u64)
 }
 
-pub fn field_16(out: &mut [u8; 8192], used: usize, at: Path, name: &[u8], value: u16) -> usize {
+pub fn field_16(out: &mut Text, used: usize, at: Path, name: &[u8], value: u16) -> usize {
     field(out, used, at, name, value as u64)
 }
 
-pub fn field_32(out: &mut [u8; 8192], used: usize, at: Path, name: &[u8], value: u32) -> usize {
+pub fn field_32(out: &mut Text, used: usize, at: Path, name: &[u8], value: u32) -> usize {
     field(out, used, at, name, value as u64)
 }
 
 // A value that has no name of its own behind its path.
-pub fn value_line(out: &mut [u8; 8192], used: usize, at: Path, value: u32) -> usize {
+pub fn value_line(out: &mut Text, used: usize, at: Path, value: u32) -> usize {
     let used = put_path(out, used, at);
     let used = put(out, used, b' ');
     let used = put_number(out, used, value as u64);
@@ -165,7 +176,7 @@ pub fn value_line(out: &mut [u8; 8192], used: usize, at: Path, value: u32) -> us
 }
 
 // A flag: 1 where it is set.
-pub fn flag(out: &mut [u8; 8192], used: usize, at: Path, name: &[u8], set: bool) -> usize {
+pub fn flag(out: &mut Text, used: usize, at: Path, name: &[u8], set: bool) -> usize {
     if set {
         return field(out, used, at, name, 1);
     }
@@ -181,7 +192,7 @@ fn magnitude(value: i32) -> u64 {
 }
 
 // A signed field and its value.
-pub fn signed_field(out: &mut [u8; 8192], used: usize, at: Path, name: &[u8], value: i32) -> usize {
+pub fn signed_field(out: &mut Text, used: usize, at: Path, name: &[u8], value: i32) -> usize {
     let mut used = title(out, used, at, b"", name);
     if value < 0 {
         used = put(out, used, b'-');
@@ -191,13 +202,13 @@ pub fn signed_field(out: &mut [u8; 8192], used: usize, at: Path, name: &[u8], va
 }
 
 // A part that the body does not have.
-pub fn absent(out: &mut [u8; 8192], used: usize, at: Path, name: &[u8]) -> usize {
+pub fn absent(out: &mut Text, used: usize, at: Path, name: &[u8]) -> usize {
     let used = title(out, used, at, b"", name);
     put_text(out, used, b"none\n")
 }
 
 // Where a list lies in the body: its first byte, from 0, and how many bytes it has.
-pub fn place(out: &mut [u8; 8192], used: usize, at: Path, part: Part) -> usize {
+pub fn place(out: &mut Text, used: usize, at: Path, part: Part) -> usize {
     let used = title(out, used, at, b"", b"part");
     let used = put_number(out, used, part.start as u64);
     let used = put(out, used, b' ');
@@ -206,14 +217,14 @@ pub fn place(out: &mut [u8; 8192], used: usize, at: Path, part: Part) -> usize {
 }
 
 // The number of a list's elements, and where the list lies.
-pub fn list(out: &mut [u8; 8192], used: usize, at: Path, part: Part) -> usize {
+pub fn list(out: &mut Text, used: usize, at: Path, part: Part) -> usize {
     let used = field(out, used, at, b"len", part.count as u64);
     place(out, used, at, part)
 }
 
 // A clock: the names of its base and its extension start with the stem, that of its reserved bits with one of its own.
 pub fn clock(
-    out: &mut [u8; 8192],
+    out: &mut Text,
     used: usize,
     at: Path,
     stem: &[u8],
@@ -235,7 +246,7 @@ pub fn clock(
 
 // A stamp, named in the same way.
 pub fn stamp(
-    out: &mut [u8; 8192],
+    out: &mut Text,
     used: usize,
     at: Path,
     stem: &[u8],
@@ -281,7 +292,7 @@ fn digit(value: u8) -> u8 {
 }
 
 // A field of bytes, in hexadecimal; `-` where there are none.
-pub fn bytes_field(out: &mut [u8; 8192], used: usize, at: Path, bytes: &[u8]) -> usize {
+pub fn bytes_field(out: &mut Text, used: usize, at: Path, bytes: &[u8]) -> usize {
     let used = put_path(out, used, at);
     let mut used = put(out, used, b' ');
     if bytes.len() == 0 {
@@ -306,13 +317,7 @@ fn slot(bytes: &[u8], index: usize) -> u8 {
 }
 
 // A field of so many slots, a digit for each; `-` where there are none.
-pub fn slots_field(
-    out: &mut [u8; 8192],
-    used: usize,
-    at: Path,
-    bytes: &[u8],
-    count: usize,
-) -> usize {
+pub fn slots_field(out: &mut Text, used: usize, at: Path, bytes: &[u8], count: usize) -> usize {
     let used = put_path(out, used, at);
     let mut used = put(out, used, b' ');
     if count == 0 {

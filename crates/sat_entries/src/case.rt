@@ -3,7 +3,7 @@ use entry_ids::entry_ids;
 use format::{Answer, Refusal};
 use list_tables::{associations, fragments, satellites};
 use list_text::{
-    Path, bytes_field, bytes_of, element, list, put, put_number, put_text, root, under,
+    Path, Text, bytes_field, bytes_of, element, list, put, put_number, put_text, root, under,
 };
 use parts::Part;
 use sat::{
@@ -12,7 +12,7 @@ use sat::{
 };
 
 // The heading, the fields or the refusal, and an empty line.
-pub fn show_case(out: &mut [u8; 8192], used: usize, id: u8, body: &[u8]) -> usize {
+pub fn show_case(out: &mut Text, used: usize, id: u8, body: &[u8]) -> usize {
     let used = put_text(out, used, b"case id ");
     let used = put_number(out, used, id as u64);
     let used = put_text(out, used, b" bytes ");
@@ -22,7 +22,7 @@ pub fn show_case(out: &mut [u8; 8192], used: usize, id: u8, body: &[u8]) -> usiz
     put(out, used, b'\n')
 }
 
-fn show_body(out: &mut [u8; 8192], used: usize, id: u8, body: &[u8]) -> usize {
+fn show_body(out: &mut Text, used: usize, id: u8, body: &[u8]) -> usize {
     let read = sat_body_parse_entries(id, body);
     match read {
         SatBodyAnswer::Body(whole) => {
@@ -35,7 +35,7 @@ fn show_body(out: &mut [u8; 8192], used: usize, id: u8, body: &[u8]) -> usize {
     }
 }
 
-fn show_refusal(out: &mut [u8; 8192], used: usize, f: Refusal) -> usize {
+fn show_refusal(out: &mut Text, used: usize, f: Refusal) -> usize {
     let used = put_text(out, used, b"R ");
     let used = put_number(out, used, f.number as u64);
     let used = put(out, used, b' ');
@@ -46,7 +46,7 @@ fn show_refusal(out: &mut [u8; 8192], used: usize, f: Refusal) -> usize {
 }
 
 // The header, which a body has under id 4 alone.
-fn show_header(out: &mut [u8; 8192], used: usize, id: u8, body: &[u8]) -> usize {
+fn show_header(out: &mut Text, used: usize, id: u8, body: &[u8]) -> usize {
     let found = header(id, body);
     match found {
         BodyHeader::Header(h) => list_ephemeris::show_header(out, used, root(), h),
@@ -87,7 +87,7 @@ fn list_part(whole: SatBody) -> Part {
     }
 }
 
-fn show_list(out: &mut [u8; 8192], used: usize, id: u8, part: Part) -> usize {
+fn show_list(out: &mut Text, used: usize, id: u8, part: Part) -> usize {
     let at = list_path(id);
     if at.length == 0 {
         return used;
@@ -103,7 +103,7 @@ fn entries_in(id: u8, body: &[u8]) -> usize {
     count
 }
 
-fn show_entries(out: &mut [u8; 8192], used: usize, id: u8, body: &[u8], count: usize) -> usize {
+fn show_entries(out: &mut Text, used: usize, id: u8, body: &[u8], count: usize) -> usize {
     let mut used = used;
     for i in 0..count {
         used = show_read(out, used, entry_path(id, i), body, entry_at(id, body, i));
@@ -119,7 +119,7 @@ fn entry_path(id: u8, index: usize) -> Path {
     element(at, index)
 }
 
-fn show_read(out: &mut [u8; 8192], used: usize, at: Path, body: &[u8], read: EntryRead) -> usize {
+fn show_read(out: &mut Text, used: usize, at: Path, body: &[u8], read: EntryRead) -> usize {
     let elements = read.covariance_elements;
     let answer = read.answer;
     match answer {
@@ -130,7 +130,7 @@ fn show_read(out: &mut [u8; 8192], used: usize, at: Path, body: &[u8], read: Ent
 }
 
 fn show_entry(
-    out: &mut [u8; 8192],
+    out: &mut Text,
     used: usize,
     at: Path,
     body: &[u8],
@@ -148,7 +148,7 @@ fn show_entry(
 }
 
 // The different ids of the entries on one line, in the order of first entries. A body has at most 1,024 entries.
-fn show_ids(out: &mut [u8; 8192], used: usize, id: u8, body: &[u8]) -> usize {
+fn show_ids(out: &mut Text, used: usize, id: u8, body: &[u8]) -> usize {
     let mut ids = [0u32; 1024];
     let found = entry_ids(id, body, &mut ids);
     let Answer::Done {
@@ -163,7 +163,7 @@ fn show_ids(out: &mut [u8; 8192], used: usize, id: u8, body: &[u8]) -> usize {
     put(out, used, b'\n')
 }
 
-fn put_ids(out: &mut [u8; 8192], used: usize, ids: &[u32; 1024], count: usize) -> usize {
+fn put_ids(out: &mut Text, used: usize, ids: &[u32; 1024], count: usize) -> usize {
     let mut used = used;
     for i in 0..count {
         if i < 1024 {
@@ -173,7 +173,7 @@ fn put_ids(out: &mut [u8; 8192], used: usize, ids: &[u32; 1024], count: usize) -
     used
 }
 
-fn put_id(out: &mut [u8; 8192], used: usize, id: u32) -> usize {
+fn put_id(out: &mut Text, used: usize, id: u32) -> usize {
     let used = put(out, used, b' ');
     put_number(out, used, id as u64)
 }

@@ -1,10 +1,11 @@
 // The cases of the input: a line for each, in hexadecimal, read a block of bytes at a time.
 use crate::case::show_case;
-use list_text::{bytes_of, put_text};
+use list_text::{Text, bytes_of, put_text};
 use parts::Part;
+use std::io::{Read, Stdin};
 
 // What there is of the line in hand. The body's bytes are kept beside it, of which `count` are there.
-#[derive(Drop)]
+#[derive(Clone, Copy)]
 pub struct Line {
     pub has_id: bool,
     pub id: u8,
@@ -18,7 +19,7 @@ pub struct Line {
 }
 
 // The line in hand, how many bytes of the text are in use, and whether there may be more input.
-#[derive(Drop)]
+#[derive(Clone, Copy)]
 pub struct State {
     pub line: Line,
     pub used: usize,
@@ -91,7 +92,7 @@ fn take_character(body: &mut [u8; 65536], line: Line, character: u8) -> Line {
 }
 
 // Shows the case of a line that is whole.
-fn end_line(out: &mut [u8; 8192], used: usize, body: &[u8; 65536], line: Line) -> usize {
+fn end_line(out: &mut Text, used: usize, body: &[u8; 65536], line: Line) -> usize {
     if line.is_bad {
         return put_text(out, used, b"case not hexadecimal\n\n");
     }
@@ -108,7 +109,7 @@ fn end_line(out: &mut [u8; 8192], used: usize, body: &[u8; 65536], line: Line) -
 }
 
 // Shows the case whose body is the first bytes of a buffer.
-fn show_start(out: &mut [u8; 8192], used: usize, id: u8, buffer: &[u8], count: usize) -> usize {
+fn show_start(out: &mut Text, used: usize, id: u8, buffer: &[u8], count: usize) -> usize {
     let part = Part {
         start: 0,
         length: count,
@@ -118,7 +119,7 @@ fn show_start(out: &mut [u8; 8192], used: usize, id: u8, buffer: &[u8], count: u
 }
 
 // Takes a block of the input, in which lines may end.
-fn take_block(out: &mut [u8; 8192], body: &mut [u8; 65536], block: &[u8], state: State) -> State {
+fn take_block(out: &mut Text, body: &mut [u8; 65536], block: &[u8], state: State) -> State {
     let mut line = state.line;
     let mut used = state.used;
     for i in 0..block.len() {
@@ -137,21 +138,20 @@ fn take_block(out: &mut [u8; 8192], body: &mut [u8; 65536], block: &[u8], state:
     }
 }
 
-// Reads once, and takes what came.
-pub fn take_some(out: &mut [u8; 8192], body: &mut [u8; 65536], state: State) -> State {
+// Reads once, and takes what came. A read that fails ends the input.
+pub fn take_some(stdin: &mut Stdin, out: &mut Text, body: &mut [u8; 65536], state: State) -> State {
     let mut block = [0u8; 65536];
-    let got = libc::read(0, &mut block);
-    if got <= 0 {
+    let n = stdin.read(&mut block).unwrap_or(0);
+    if n == 0 {
         let mut state = state;
         state.is_open = false;
         return state;
     }
-    let n = io::count(got, &block);
     take_block(out, body, &block[..n], state)
 }
 
 // Shows the case of a last line that no line end follows.
-pub fn take_rest(out: &mut [u8; 8192], body: &[u8; 65536], state: State) -> usize {
+pub fn take_rest(out: &mut Text, body: &[u8; 65536], state: State) -> usize {
     let line = state.line;
     if line.has_id || line.is_half || line.is_bad {
         return end_line(out, state.used, body, line);

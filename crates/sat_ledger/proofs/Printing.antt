@@ -1,4 +1,4 @@
--- That the ledger writer's answer, in the program's buffer, makes what `outputOf` says.
+-- That the ledger writer's answer, in the program's buffer, makes what `output_of` says.
 -- Assumes nothing.
 use Prim.Native.Nat.{ℕ, suc, ◌-◌, ◌≤◌, ◌<◌}
 use native.Mathlib.Omega.{arith}

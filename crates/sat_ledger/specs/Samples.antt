@@ -5,7 +5,7 @@ use Rattle.format.specs.Digits.{digits, value, bits_of}
 use Rattle.format.specs.Tables.{position}
 use Rattle.format.specs.Body.{read_body}
 use Rattle.format.specs.Ledger.{ledger}
-use Rattle.format.specs.Whole.{walk, read_as, body_read_as, body_read, ledgers, content_of, ledger_of}
+use Rattle.format.specs.Whole.{walk, read_as, body_read_as, ledgers, content_of, ledger_of}
 use Rattle.format.specs.Calls.{filed}
 use Rattle.ledger_text.specs.Text.{ascii, hex_digit, hex_text, hex_line, digits_before, decimal, spaced, refusal_line}
 use Rattle.sat_ledger.specs.Output.{shown, output_of}

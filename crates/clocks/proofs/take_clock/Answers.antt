@@ -33,8 +33,7 @@ read_u-r-requires-3 c =
     let a = read_there 33 t0 c.read_u-r.ensures.0 in
     let t1 = past t0 c.read_u-r.ensures.1 c.in-Value.is in
     let b = read_there 6 t1 c.read_u-r-2.ensures.0 in
-    let t2 = past t1 c.read_u-r-2.ensures.1 c.in-Value-r.is in
-    (
+    let t2 = past t1 c.read_u-r-2.ensures.1 c.in-Value-r.is in (
       placed t2 (after c.args.s.now c.in-Value.next 6 (after c.args.s.now c.args.at 33 c.requires a c.in-Value.is) b c.in-Value-r.is),
       omega arith,
     )

@@ -27,10 +27,13 @@ returns-in_default c =
     let a = c.args in
     let least-bits = c.least_bits-least in
     let l = c.loop-at in
-    let pre = c.requires in record { value = laws.seek_stop (least_bits (a.table_id)) (entry_syntax (a.table_id)) (fine_entry (a.table_id) (pre.list))
+    let pre = c.requires in record {
+      value = laws.seek_stop (least_bits (a.table_id)) (entry_syntax (a.table_id)) (fine_entry (a.table_id) (pre.list))
           (least_entry (a.table_id) (pre.list)) (byte_entry (a.table_id) (pre.list)) (a.s.now) a.start a.index l.at l.count
           l.place (l.invariant (pre.list)) Entries Refused _ (omega (arith, least-bits.ensures))
-          (sym c.entry_end-end.ensures ∙ told c.in_default.is c.end_refusal.ensures); sure = record { to = tt } }
+          (sym c.entry_end-end.ensures ∙ told c.in_default.is c.end_refusal.ensures);
+      sure = record { to = tt };
+    }
 
 pub overflow_add-count : goal.overflow_add-count
 overflow_add-count c =
@@ -56,7 +59,7 @@ loop-at-preserved c =
     let least-bits = c.least_bits-least in
     let l' = c.loop-at in
     λ l. elim c.if-count-index.branch [
-      then-count-index w ↦
+      | then-count-index w ↦
           subst
           (laws.Kept (least_bits a.table_id) (entry_syntax a.table_id) (fine_entry a.table_id l)
           (least_entry a.table_id l) (byte_entry a.table_id l) a.s.now a.start a.index _ _)
@@ -79,14 +82,17 @@ loop-at-preserved c =
 pub returns : goal.returns
 returns c =
     let a = c.args in
-    let pre = c.requires in record { value = laws.seek_over (least_bits (a.table_id)) (entry_syntax (a.table_id)) (fine_entry (a.table_id) (pre.list))
+    let pre = c.requires in record {
+      value = laws.seek_over (least_bits (a.table_id)) (entry_syntax (a.table_id)) (fine_entry (a.table_id) (pre.list))
           (least_entry (a.table_id) (pre.list)) (byte_entry (a.table_id) (pre.list)) (a.s.now) a.start a.index c.loop-at.at
           c.loop-at.count c.loop-at.place (c.loop-at.invariant (pre.list)) Entries Refused
-          (omega (arith, c.least_bits-least.ensures)); sure = record {
+          (omega (arith, c.least_bits-least.ensures));
+      sure = record {
         to = record {
           short = pre.s_len_bound.0;
           within = (c.loop-at.invariant (pre.list)).sure.0;
           byte = (c.loop-at.invariant (pre.list)).sure.1;
           on = omega (arith, (c.loop-at.invariant (pre.list)).few);
         };
-      } }
+      };
+    }

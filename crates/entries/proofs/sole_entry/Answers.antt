@@ -20,29 +20,38 @@ after (Entry x n) = end.At n
 after (Refused f) = end.Refused f
 
 pub returns-then-table_id-ne2 : goal.returns-then-table_id-ne2
-returns-then-table_id-ne2 c = record { by_index = λ i. seek_raw i _ _ _ c.args.table_id c.requires.s_len_bound c.requires.fact c.if-table_id-ne2.true; sure = record
-      { to = record { short = c.requires.s_len_bound; within = omega arith; byte = refl; on = omega arith } } }
+returns-then-table_id-ne2 c = record {
+  by_index = λ i. seek_raw i _ _ _ c.args.table_id c.requires.s_len_bound c.requires.fact c.if-table_id-ne2.true;
+  sure = record
+      { to = record { short = c.requires.s_len_bound; within = omega arith; byte = refl; on = omega arith } };
+}
 
 pub returns-in_default : goal.returns-in_default
 unfolding end_of after refusal_of association_at
 returns-in_default c =
     let a = c.args in
     let pre = c.requires in
-    let z : a.table_id ≡ 2 = omega (arith, c.if-table_id-ne2.false) in record { by_index = λ i. rw z
+    let z : a.table_id ≡ 2 = omega (arith, c.if-table_id-ne2.false) in record {
+      by_index = λ i. rw z
           (seek_not i _ _ _ _ pre.s_len_bound
           (sym
           (given_no _ association _ (λ ts q. end.At q) end.Refused (λ ts q. Entry (association_of ts) q) Refused after (λ ts q. refl) (λ f. refl)
           refusal_of (λ x. refl) c.read_association-r.ensures c.in_default.is
-          c.association_refusal.ensures))); sure = record { to = tt } }
+          c.association_refusal.ensures)));
+      sure = record { to = tt };
+    }
 
 pub returns : goal.returns
 unfolding end_of after association_at
 returns c =
     let a = c.args in
     let pre = c.requires in
-    let z : a.table_id ≡ 2 = omega (arith, c.if-table_id-ne2.false) in record { by_index = λ i. rw z
+    let z : a.table_id ≡ 2 = omega (arith, c.if-table_id-ne2.false) in record {
+      by_index = λ i. rw z
           (seek_sole i _ _ _ _ pre.s_len_bound
           (sym
           (given _ association _ (λ ts q. end.At q) end.Refused (λ ts q. Entry (association_of ts) q) Refused after (λ ts q. refl) (λ f. refl)
-          c.read_association-r.ensures c.in-Entry.is refl))); sure = record
-          { to = record { short = pre.s_len_bound; within = omega arith; byte = refl; on = omega arith } } }
+          c.read_association-r.ensures c.in-Entry.is refl)));
+      sure = record
+          { to = record { short = pre.s_len_bound; within = omega arith; byte = refl; on = omega arith } };
+    }

@@ -28,8 +28,11 @@ two (suc (suc (suc (suc zero)))) h l = absurd (omega arith)
 two (suc (suc (suc (suc (suc i))))) h l = l
 
 pub returns-then-s-gt4096 : goal.returns-then-s-gt4096
-returns-then-s-gt4096 c = record { value = seek_over c.args.index Entries Refused c.args.s.now c.args.table_id
-      c.if-s-gt4096.true; sure = record { to = tt } }
+returns-then-s-gt4096 c = record {
+  value = seek_over c.args.index Entries Refused c.args.s.now c.args.table_id
+      c.if-s-gt4096.true;
+  sure = record { to = tt };
+}
 
 pub returns-then-table_id-eq2 : goal.returns-then-table_id-eq2
 returns-then-table_id-eq2 c =
@@ -44,9 +47,12 @@ returns-then-table_id-gt4 c =
 pub returns-in_default : goal.returns-in_default
 returns-in_default c =
     let a = c.args in
-    let if1 = c.if-s-gt4096 in record { value = seek_unheaded a.index Entries Refused a.s.now a.table_id if1.false
+    let if1 = c.if-s-gt4096 in record {
+      value = seek_unheaded a.index Entries Refused a.s.now a.table_id if1.false
           ((is_list a.table_id c.if-table_id-gt4.false c.if-table_id-eq2.false))
-          c.head_end-head.ensures c.in_default.is c.end_refusal.ensures; sure = record { to = tt } }
+          c.head_end-head.ensures c.in_default.is c.end_refusal.ensures;
+      sure = record { to = tt };
+    }
 
 pub seek_entries-requires : goal.seek_entries-requires
 seek_entries-requires c =
@@ -54,19 +60,25 @@ seek_entries-requires c =
     let head-end = c.head_end-head in
     let if1 = c.if-s-gt4096 in
     let if2 = c.if-table_id-eq2 in
-    let if3 = c.if-table_id-gt4 in record { s_len_bound = (
+    let if3 = c.if-table_id-gt4 in record {
+      s_len_bound = (
         if1.false,
         ((headed a.s.now a.table_id _ ((is_list a.table_id if3.false if2.false))
             ((sym head-end.ensures ∙ c.in-At.is)))).within,
         ((headed a.s.now a.table_id _ ((is_list a.table_id if3.false if2.false))
             ((sym head-end.ensures ∙ c.in-At.is)))).byte,
-      ); list = (is_list a.table_id if3.false if2.false) }
+      );
+      list = (is_list a.table_id if3.false if2.false);
+    }
 
 pub returns : goal.returns
 returns c =
     let a = c.args in
     let if1 = c.if-s-gt4096 in
-    let if2 = c.if-table_id-eq2 in record { value = seek_list a.index Entries Refused a.s.now a.table_id _ if1.false
+    let if2 = c.if-table_id-eq2 in record {
+      value = seek_list a.index Entries Refused a.s.now a.table_id _ if1.false
           ((is_list a.table_id c.if-table_id-gt4.false if2.false))
-          ((sym c.head_end-head.ensures ∙ c.in-At.is)) c.seek_entries.ensures.value; sure = rw (head_ends a.table_id a.s.now _ (sym c.head_end-head.ensures ∙ c.in-At.is))
-          c.seek_entries.ensures.sure }
+          ((sym c.head_end-head.ensures ∙ c.in-At.is)) c.seek_entries.ensures.value;
+      sure = rw (head_ends a.table_id a.s.now _ (sym c.head_end-head.ensures ∙ c.in-At.is))
+          c.seek_entries.ensures.sure;
+    }

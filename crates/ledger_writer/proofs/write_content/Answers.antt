@@ -28,8 +28,11 @@ pub write_entries-requires-2 : goal.write_entries-requires-2
 write_entries-requires-2 c =
     let a = c.args in
     let pre = c.requires in
-    let write-header = c.write_header-head in record { placed = record
-          { short = pre; within = (done c.in-Done.is (write-header.ensures (outside (edition_for a.version)))).within; behind = omega (arith, (done c.in-Done.is (write-header.ensures (outside (edition_for a.version)))).slack) }; start_value = header_ends (done c.in-Done.is (write-header.ensures (outside (edition_for a.version)))) }
+    let write-header = c.write_header-head in record {
+      placed = record
+          { short = pre; within = (done c.in-Done.is (write-header.ensures (outside (edition_for a.version)))).within; behind = omega (arith, (done c.in-Done.is (write-header.ensures (outside (edition_for a.version)))).slack) };
+      start_value = header_ends (done c.in-Done.is (write-header.ensures (outside (edition_for a.version))));
+    }
 
 pub returns : goal.returns
 returns c =

@@ -34,9 +34,12 @@ unfolding run sign_of width_of
 read_run-fifth-requires c =
     let a = c.args in
     let pre = c.requires in
-    let read-run = c.read_run-fourth in record { ledger_placed = placed_on pre.ledger_placed
+    let read-run = c.read_run-fourth in record {
+      ledger_placed = placed_on pre.ledger_placed
           (done c.in-Done.is
-          (read-run.ensures.laid some_way names.accel (λ accel. bits "covariance_flag" 1 ((rest a.meta a.start a.stop) accel)))); t = tt }
+          (read-run.ensures.laid some_way names.accel (λ accel. bits "covariance_flag" 1 ((rest a.meta a.start a.stop) accel))));
+      t = tt;
+    }
 
 pub returns-in_default-fifth : goal.returns-in_default-fifth
 unfolding run sign_of width_of
@@ -90,7 +93,8 @@ read_ephemerides-requires c =
     let read-run = c.read_run-fourth in
     let read-run2 = c.read_run-fifth in
     let flag = done c.in-Done.is (read-run.ensures.laid some_way names.accel (λ accel. bits "covariance_flag" 1 ((rest a.meta a.start a.stop) accel))) in
-    let bytes = below_of 256 a.ledger.now (λ i. omega (arith, c.shared_slice_known-1.given i)) in record { ledger_placed = placed_on pre.ledger_placed
+    let bytes = below_of 256 a.ledger.now (λ i. omega (arith, c.shared_slice_known-1.given i)) in record {
+      ledger_placed = placed_on pre.ledger_placed
           (go_on
           (go_on
           (done c.in-Done.is
@@ -98,9 +102,11 @@ read_ephemerides-requires c =
           (done c.in-Done-fifth.is (read-run2.ensures.laid some_way names.cov ((rest a.meta a.start a.stop) c.in-Done.accel))))
           (done c.in-Done-about.is
           (starts (when_yes _ _ _ _ _ _ (eq-eqb _ _ if1.true))
-          (read-metadata.ensures some_way (ephemerides c.in-Done.accel c.in-Done-fifth.cov))))); at_value = came_whole (fine_metadata a.start a.stop) bytes
+          (read-metadata.ensures some_way (ephemerides c.in-Done.accel c.in-Done-fifth.cov)))));
+      at_value = came_whole (fine_metadata a.start a.stop) bytes
           (omega (arith, run_moved (1 ∷ []) c.in-Done.is pre.ledger_placed.within read-run.ensures.laid, run_moved (1 ∷ []) c.in-Done-fifth.is flag.within read-run2.ensures.laid, pre.at_value))
-          (done c.in-Done-about.is (read-metadata.ensures some_way end)) }
+          (done c.in-Done-about.is (read-metadata.ensures some_way end));
+    }
 
 pub returns-then-meta-eq1 : goal.returns-then-meta-eq1
 unfolding run sign_of width_of
@@ -129,12 +135,15 @@ read_ephemerides-requires-2 c =
     let read-run = c.read_run-fourth in
     let read-run2 = c.read_run-fifth in
     let flag = done c.in-Done.is (read-run.ensures.laid some_way names.accel (λ accel. bits "covariance_flag" 1 ((rest a.meta a.start a.stop) accel))) in
-    record { ledger_placed = placed_on pre.ledger_placed
+    record {
+      ledger_placed = placed_on pre.ledger_placed
           (go_on
           (done c.in-Done.is
           (read-run.ensures.laid some_way names.accel (λ accel. bits "covariance_flag" 1 ((rest a.meta a.start a.stop) accel))))
           (done c.in-Done-fifth.is
-          (read-run2.ensures.laid some_way names.cov ((rest a.meta a.start a.stop) c.in-Done.accel)))); at_value = omega (arith, run_moved (1 ∷ []) c.in-Done.is pre.ledger_placed.within read-run.ensures.laid, run_moved (1 ∷ []) c.in-Done-fifth.is flag.within read-run2.ensures.laid, pre.at_value) }
+          (read-run2.ensures.laid some_way names.cov ((rest a.meta a.start a.stop) c.in-Done.accel))));
+      at_value = omega (arith, run_moved (1 ∷ []) c.in-Done.is pre.ledger_placed.within read-run.ensures.laid, run_moved (1 ∷ []) c.in-Done-fifth.is flag.within read-run2.ensures.laid, pre.at_value);
+    }
 
 pub returns : goal.returns
 unfolding run sign_of width_of

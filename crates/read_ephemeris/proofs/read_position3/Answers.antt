@@ -24,10 +24,13 @@ pub read_run-second-requires : goal.read_run-second-requires
 unfolding run sign_of width_of
 read_run-second-requires c =
     let pre = c.requires in
-    let read-run = c.read_run-head in record { ledger_placed = placed_on pre.ledger_placed
+    let read-run = c.read_run-head in record {
+      ledger_placed = placed_on pre.ledger_placed
           (done c.in-Done.is
           (read-run.ensures.laid some_way names.satellite3
-          (λ meta. bits "usable_start_time_flag" 1 (λ start. bits "usable_stop_time_flag" 1 (flagged meta start))))); t = tt }
+          (λ meta. bits "usable_start_time_flag" 1 (λ start. bits "usable_stop_time_flag" 1 (flagged meta start)))));
+      t = tt;
+    }
 
 pub returns-in_default-second : goal.returns-in_default-second
 unfolding position3 run sign_of width_of
@@ -46,13 +49,16 @@ unfolding run sign_of width_of
 read_run-third-requires c =
     let pre = c.requires in
     let read-run = c.read_run-head in
-    let read-run2 = c.read_run-second in record { ledger_placed = placed_on pre.ledger_placed
+    let read-run2 = c.read_run-second in record {
+      ledger_placed = placed_on pre.ledger_placed
           (go_on
           (done c.in-Done.is
           (read-run.ensures.laid some_way names.satellite3
           (λ meta. bits "usable_start_time_flag" 1 (λ start. bits "usable_stop_time_flag" 1 (flagged meta start)))))
           (done c.in-Done-second.is
-          (read-run2.ensures.laid some_way names.start (λ start. bits "usable_stop_time_flag" 1 (flagged c.in-Done.meta start))))); t = tt }
+          (read-run2.ensures.laid some_way names.start (λ start. bits "usable_stop_time_flag" 1 (flagged c.in-Done.meta start)))));
+      t = tt;
+    }
 
 pub returns-in_default-third : goal.returns-in_default-third
 unfolding position3 run sign_of width_of
@@ -78,7 +84,8 @@ read_flagged-requires c =
     let read-run3 = c.read_run-third in
     let w = (done c.in-Done.is (read-run.ensures.laid some_way names.satellite3 (λ meta. bits "usable_start_time_flag" 1 (λ start. bits "usable_stop_time_flag" 1 (flagged meta start))))) in
     let w2 = (done c.in-Done-second.is (read-run2.ensures.laid some_way names.start (λ start. bits "usable_stop_time_flag" 1 (flagged c.in-Done.meta start)))) in
-    record { ledger_placed = placed_on pre.ledger_placed
+    record {
+      ledger_placed = placed_on pre.ledger_placed
           (go_on
           (go_on
           (done c.in-Done.is
@@ -88,13 +95,15 @@ read_flagged-requires c =
           (read-run2.ensures.laid some_way names.start
           (λ start. bits "usable_stop_time_flag" 1 (flagged c.in-Done.meta start)))))
           (done c.in-Done-third.is
-          (read-run3.ensures.laid some_way names.stop (flagged c.in-Done.meta c.in-Done-second.start)))); at_value = omega (
+          (read-run3.ensures.laid some_way names.stop (flagged c.in-Done.meta c.in-Done-second.start))));
+      at_value = omega (
         arith,
         run_moved (24 ∷ 3 ∷ 1 ∷ []) c.in-Done.is pre.ledger_placed.within read-run.ensures.laid,
         run_moved (1 ∷ []) c.in-Done-second.is w.within read-run2.ensures.laid,
         run_moved (1 ∷ []) c.in-Done-third.is w2.within read-run3.ensures.laid,
         pre.at_value,
-      ) }
+      );
+    }
 
 pub returns : goal.returns
 unfolding position3 run sign_of width_of

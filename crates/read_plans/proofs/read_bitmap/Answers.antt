@@ -38,10 +38,13 @@ read_slots-requires c =
     let pre = c.requires in
     let read-run = c.read_run-size in
     let read-run2 = c.read_run-current in
-    record { ledger_placed = placed_on pre
+    record {
+      ledger_placed = placed_on pre
           (go_on (done c.in-Done.is (read-run.ensures.laid some_way size_names after_size))
           (done c.in-Done-current.is
-          (read-run2.ensures.laid some_way slot_names (λ _. slots "slot_transmission_on" 12 c.in-Done.slots end)))); m_bound = omega (arith, last_of_lem last_of c.in-Done.is read-run.ensures.result_bound) }
+          (read-run2.ensures.laid some_way slot_names (λ _. slots "slot_transmission_on" 12 c.in-Done.slots end))));
+      m_bound = omega (arith, last_of_lem last_of c.in-Done.is read-run.ensures.result_bound);
+    }
 
 pub returns : goal.returns
 unfolding run sign_of width_of

@@ -27,9 +27,12 @@ read_run-clocks-requires c =
 pub returns-in_default-clocks : goal.returns-in_default-clocks
 unfolding run sign_of width_of
 returns-in_default-clocks c =
-    let read-run = c.read_run-head in record { laid = λ way. then (done c.in-Done.is (read-run.ensures.laid way mode_names after_mode))
+    let read-run = c.read_run-head in record {
+      laid = λ way. then (done c.in-Done.is (read-run.ensures.laid way mode_names after_mode))
           (stops c.in_default-clocks.is
-          (c.read_run-clocks.ensures.laid way time_names (λ _. mode c.in-Done.kind))); spared = spared_no c.in_default-clocks.is }
+          (c.read_run-clocks.ensures.laid way time_names (λ _. mode c.in-Done.kind)));
+      spared = spared_no c.in_default-clocks.is;
+    }
 
 pub read_mode-requires : goal.read_mode-requires
 unfolding run sign_of width_of
@@ -43,7 +46,8 @@ read_mode-requires c =
 
 pub returns : goal.returns
 unfolding run sign_of width_of size_of
-returns c = record { laid = λ way. then
+returns c = record {
+  laid = λ way. then
       (go_on
       (done
       c.in-Done.is
@@ -53,7 +57,8 @@ returns c = record { laid = λ way. then
       (c.read_run-clocks.ensures.laid way time_names
       (λ _. mode
       c.in-Done.kind))))
-      (c.read_mode.ensures way); spared = spared
+      (c.read_mode.ensures way);
+  spared = spared
       (omega (
         arith,
         (run_moved (6 ∷ 2 ∷ [])
@@ -65,4 +70,5 @@ returns c = record { laid = λ way. then
             (λ _. mode
             c.in-Done.kind))).slack,
       ))
-      (c.read_mode.ensures some_way) }
+      (c.read_mode.ensures some_way);
+}

@@ -13,8 +13,11 @@ use Rattle.read_runs.proofs.Stores.{fits}
 use Rattle.read_runs.proofs.read_line.Goals as goal
 
 pub returns-then-ledger-place : goal.returns-then-ledger-place
-returns-then-ledger-place c = record { laid = λ way nm k. record
-      { to = missing _ _ _ nm _ k c.size_of-size.ensures c.requires.ledger_placed.within c.if-ledger-place.true }; result_bound = pow_pos _ }
+returns-then-ledger-place c = record {
+  laid = λ way nm k. record
+      { to = missing _ _ _ nm _ k c.size_of-size.ensures c.requires.ledger_placed.within c.if-ledger-place.true };
+  result_bound = pow_pos _;
+}
 
 pub get_be-x-requires : goal.get_be-x-requires
 get_be-x-requires c =
@@ -63,9 +66,12 @@ returns-then-out-eq0 c =
     let shown = c.shown_of.ensures in
     let right = c.if-shown_of-x.false in
     let width = c.width_of-width.ensures in
-    let some = (mark_facts a.mark pre.t).some in record { laid = λ way nm k. record {
+    let some = (mark_facts a.mark pre.t).some in record {
+      laid = λ way nm k. record {
         to = line_done nm a.mark k pre.t width size pre.ledger_placed.within there number.ensures low (sym shown ∙ right) (λ h. absurd (omega (arith, c.if-out-eq0.true, some, width))) (refl);
-      }; result_bound = rw low (mod-lt number.result (pow_pos (width_of a.mark))) }
+      };
+      result_bound = rw low (mod-lt number.result (pow_pos (width_of a.mark)));
+    }
 
 pub lay-requires : goal.lay-requires
 lay-requires c =
@@ -91,6 +97,9 @@ returns c =
     let low = c.low_of-v.ensures in
     let shown = c.shown_of.ensures in
     let right = c.if-shown_of-x.false in
-    let width = c.width_of-width.ensures in record { laid = λ way nm k. record {
+    let width = c.width_of-width.ensures in record {
+      laid = λ way nm k. record {
         to = line_done nm a.mark k pre.t width size pre.ledger_placed.within there number.ensures low (sym shown ∙ right) (fits a.out.now _ _ _ _ c.lay.ensures (length_digits 2 _ _)) (search rules);
-      }; result_bound = rw low (mod-lt number.result (pow_pos (width_of a.mark))) }
+      };
+      result_bound = rw low (mod-lt number.result (pow_pos (width_of a.mark)));
+    }

@@ -29,9 +29,12 @@ pub returns-in_default : goal.returns-in_default
 returns-in_default c =
     let a = c.args in
     let l = c.loop-i in
-    let test' = c.loop-i-test in record { laid = λ way nms k. stop (line (head_name (drop l.i nms)) (get_or a.marks.now l.i 0)) (l.invariant.0 nms)
+    let test' = c.loop-i-test in record {
+      laid = λ way nms k. stop (line (head_name (drop l.i nms)) (get_or a.marks.now l.i 0)) (l.invariant.0 nms)
           (λ x. c.read_line-step.ensures.laid x (head_name (drop l.i nms))) ((λ k. lines_next nms _ _ _ k test'.true))
-          c.in_default.is way k k; result_bound = no_last last_of c.in_default.is _ refl }
+          c.in_default.is way k k;
+      result_bound = no_last last_of c.in_default.is _ refl;
+    }
 
 pub loop-i-preserved : goal.loop-i-preserved
 loop-i-preserved c =
@@ -47,5 +50,8 @@ loop-i-preserved c =
 
 pub returns : goal.returns
 returns c =
-    let z : c.loop-i.i ≡ length c.args.marks.now = omega arith in record { laid = λ way nms k. record
-          { to = ended (c.loop-i.invariant.0 nms) way k _ (lines_end nms c.args.marks.now _ c.loop-i.i k z) }; result_bound = rw (← z) c.loop-i.invariant.2 }
+    let z : c.loop-i.i ≡ length c.args.marks.now = omega arith in record {
+      laid = λ way nms k. record
+          { to = ended (c.loop-i.invariant.0 nms) way k _ (lines_end nms c.args.marks.now _ c.loop-i.i k z) };
+      result_bound = rw (← z) c.loop-i.invariant.2;
+    }

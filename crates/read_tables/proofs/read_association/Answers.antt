@@ -25,9 +25,12 @@ returns-in_default c =
 pub read_run-requires : goal.read_run-requires
 read_run-requires c =
     let pre = c.requires in
-    let read-run = c.read_run-head in record { ledger_placed = placed_on pre
+    let read-run = c.read_run-head in record {
+      ledger_placed = placed_on pre
           (done c.in-Done.is
-          (starts (need_any _ _ _ 2 1 _) (starts (need_any _ _ _ 9 152 _) (read-run.ensures.laid some_way names.type rest)))); t = tt }
+          (starts (need_any _ _ _ 2 1 _) (starts (need_any _ _ _ 9 152 _) (read-run.ensures.laid some_way names.type rest))));
+      t = tt;
+    }
 
 pub returns-then-kind-eq1 : goal.returns-then-kind-eq1
 unfolding association run sign_of width_of
@@ -40,9 +43,12 @@ returns-then-kind-eq1 c =
 pub read_run-requires-2 : goal.read_run-requires-2
 read_run-requires-2 c =
     let pre = c.requires in
-    let read-run = c.read_run-head in record { ledger_placed = placed_on pre
+    let read-run = c.read_run-head in record {
+      ledger_placed = placed_on pre
           (done c.in-Done.is
-          (starts (need_any _ _ _ 2 1 _) (starts (need_any _ _ _ 9 152 _) (read-run.ensures.laid some_way names.type rest)))); t = tt }
+          (starts (need_any _ _ _ 2 1 _) (starts (need_any _ _ _ 9 152 _) (read-run.ensures.laid some_way names.type rest))));
+      t = tt;
+    }
 
 pub returns : goal.returns
 unfolding association run sign_of width_of

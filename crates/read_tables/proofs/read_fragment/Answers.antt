@@ -43,10 +43,13 @@ unfolding run sign_of width_of
 read_run-centre-requires c =
     let pre = c.requires in
     let read-run = c.read_run-cell in
-    let read-run2 = c.read_run-flag in record { ledger_placed = placed_on pre
+    let read-run2 = c.read_run-flag in record {
+      ledger_placed = placed_on pre
           (go_on (done c.in-Done.is (read-run.ensures.laid some_way names.cell (λ v. u "last_occurrence" 1 (middle v))))
           (done c.in-Done-flag.is
-          (read-run2.ensures.laid some_way names.last (λ _. middle c.in-Done.first)))); t = tt }
+          (read-run2.ensures.laid some_way names.last (λ _. middle c.in-Done.first))));
+      t = tt;
+    }
 
 pub returns-in_default-centre : goal.returns-in_default-centre
 unfolding fragment run sign_of width_of
@@ -98,10 +101,13 @@ unfolding run sign_of width_of
 read_run-none-requires c =
     let pre = c.requires in
     let read-run = c.read_run-cell in
-    let read-run2 = c.read_run-flag in record { ledger_placed = placed_on pre
+    let read-run2 = c.read_run-flag in record {
+      ledger_placed = placed_on pre
           (go_on (done c.in-Done.is (read-run.ensures.laid some_way names.cell (λ v. u "last_occurrence" 1 (middle v))))
           (done c.in-Done-flag.is
-          (read-run2.ensures.laid some_way names.last (λ _. middle c.in-Done.first)))); t = tt }
+          (read-run2.ensures.laid some_way names.last (λ _. middle c.in-Done.first))));
+      t = tt;
+    }
 
 pub returns-in_default-none : goal.returns-in_default-none
 unfolding fragment run sign_of width_of

@@ -30,8 +30,11 @@ unfolding run sign_of width_of
 read_run-new-requires c =
     let a = c.args in
     let pre = c.requires in
-    let read-counted = c.read_counted-ids in record { ledger_placed = placed_on pre
-          (done c.in-Done.is (starts (need_any _ _ _ 6 (a.count * 32) _) (read-counted.ensures some_way names.delivery new))); t = tt }
+    let read-counted = c.read_counted-ids in record {
+      ledger_placed = placed_on pre
+          (done c.in-Done.is (starts (need_any _ _ _ 6 (a.count * 32) _) (read-counted.ensures some_way names.delivery new)));
+      t = tt;
+    }
 
 pub returns-in_default-new : goal.returns-in_default-new
 unfolding run sign_of width_of
@@ -47,9 +50,12 @@ read_counted-systems-requires c =
     let a = c.args in
     let pre = c.requires in
     let read-counted = c.read_counted-ids in
-    let read-run = c.read_run-new in record { ledger_placed = placed_on pre
+    let read-run = c.read_run-new in record {
+      ledger_placed = placed_on pre
           (go_on (done c.in-Done.is (starts (need_any _ _ _ 6 (a.count * 32) _) (read-counted.ensures some_way names.delivery new)))
-          (done c.in-Done-new.is (read-run.ensures.laid some_way names.new_count news))); t = tt }
+          (done c.in-Done-new.is (read-run.ensures.laid some_way names.new_count news)));
+      t = tt;
+    }
 
 pub returns-in_default-systems : goal.returns-in_default-systems
 unfolding run sign_of width_of
@@ -71,12 +77,15 @@ read_run-old-requires c =
     let pre = c.requires in
     let read-counted = c.read_counted-ids in
     let read-counted2 = c.read_counted-systems in
-    let read-run = c.read_run-new in record { ledger_placed = placed_on pre
+    let read-run = c.read_run-new in record {
+      ledger_placed = placed_on pre
           (go_on
           (go_on (done c.in-Done.is (starts (need_any _ _ _ 6 (a.count * 32) _) (read-counted.ensures some_way names.delivery new)))
           (done c.in-Done-new.is (read-run.ensures.laid some_way names.new_count news)))
           (done c.in-Done-systems.is
-          (starts (need_any _ _ _ 7 (c.in-Done-new.news * 80) _) (read-counted2.ensures some_way names.new_system obsolescent)))); t = tt }
+          (starts (need_any _ _ _ 7 (c.in-Done-new.news * 80) _) (read-counted2.ensures some_way names.new_system obsolescent))));
+      t = tt;
+    }
 
 pub returns-in_default-old : goal.returns-in_default-old
 unfolding run sign_of width_of
@@ -102,14 +111,17 @@ read_counted-requires c =
     let read-counted2 = c.read_counted-systems in
     let read-run = c.read_run-new in
     let read-run2 = c.read_run-old in
-    record { ledger_placed = placed_on pre
+    record {
+      ledger_placed = placed_on pre
           (go_on
           (go_on
           (go_on (done c.in-Done.is (starts (need_any _ _ _ 6 (a.count * 32) _) (read-counted.ensures some_way names.delivery new)))
           (done c.in-Done-new.is (read-run.ensures.laid some_way names.new_count news)))
           (done c.in-Done-systems.is
           (starts (need_any _ _ _ 7 (c.in-Done-new.news * 80) _) (read-counted2.ensures some_way names.new_system obsolescent))))
-          (done c.in-Done-old.is (read-run2.ensures.laid some_way names.old_count olds))); t = tt }
+          (done c.in-Done-old.is (read-run2.ensures.laid some_way names.old_count olds)));
+      t = tt;
+    }
 
 pub returns : goal.returns
 unfolding run sign_of width_of

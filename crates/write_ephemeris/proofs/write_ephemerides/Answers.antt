@@ -44,9 +44,12 @@ write_needed-requires c =
     let a = c.args in
     let pre = c.requires in
     let write-each = c.write_each-each in
-    let write-run = c.write_run-number in record { placed = placed_on pre
+    let write-run = c.write_run-number in record {
+      placed = placed_on pre
           ((go_on ((done c.in-Done.is (write-run.ensures.ran (outside edition_1) names.count (rest a.accel a.cov))))
-          (done c.in-Done-each.is (write-each.ensures (outside edition_1) (covariance a.cov))))); t = tt }
+          (done c.in-Done-each.is (write-each.ensures (outside edition_1) (covariance a.cov)))));
+      t = tt;
+    }
 
 pub returns-then-cov-eq1 : goal.returns-then-cov-eq1
 unfolding run sign_of width_of

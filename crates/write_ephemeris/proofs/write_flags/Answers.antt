@@ -48,10 +48,13 @@ write_run-fifth-requires c =
     let a = c.args in
     let pre = c.requires in
     let write-run = c.write_run-third in
-    let write-run2 = c.write_run-fourth in record { placed = placed_on pre
+    let write-run2 = c.write_run-fourth in record {
+      placed = placed_on pre
           ((go_on ((done c.in-Done.is (write-run.ensures.ran (outside edition_1) names.stop ((third a.meta a.start)))))
           (done c.in-Done-fourth.is
-          (write-run2.ensures.ran (outside edition_1) names.accel ((fourth a.meta a.start c.in-Done.stop)))))); t = tt }
+          (write-run2.ensures.ran (outside edition_1) names.accel ((fourth a.meta a.start c.in-Done.stop))))));
+      t = tt;
+    }
 
 pub returns-in_default-fifth : goal.returns-in_default-fifth
 unfolding run sign_of width_of

@@ -34,7 +34,8 @@ pub write_slots-requires : goal.write_slots-requires
 unfolding run sign_of width_of size_of
 write_slots-requires c =
     let m1 = moved_done c.in-Done.is c.write_needed-size.ensures.moved in
-    let m2 = moved_done c.in-Done-current.is c.write_run-current.ensures.moved in record { placed = placed_on
+    let m2 = moved_done c.in-Done-current.is c.write_run-current.ensures.moved in record {
+      placed = placed_on
           c.requires.placed
           (go_on
           (done c.in-Done.is
@@ -44,7 +45,8 @@ write_slots-requires c =
           (c.write_run-current.ensures.ran (outside edition_1) slot_names
           (λ _. slots "slot_transmission_on" 12
           c.in-Done.slots
-          end)))); at_value = (
+          end))));
+      at_value = (
         omega (
           arith,
           m1.0,
@@ -56,7 +58,8 @@ write_slots-requires c =
           last_of_lem last_of c.in-Done.is
               c.write_needed-size.ensures.result_bound,
         ),
-      ) }
+      );
+    }
 
 pub returns : goal.returns
 unfolding run sign_of width_of

@@ -40,9 +40,11 @@ write_mode-requires c =
     let a = c.args in
     let pre = c.requires in
     let write-run = c.write_run-head in
-    let write-run2 = c.write_run-clocks in record { placed = placed_on pre.placed
+    let write-run2 = c.write_run-clocks in record {
+      placed = placed_on pre.placed
           (go_on (done c.in-Done.is (write-run.ensures.ran (inside edition_1 a.stop) mode_names after_mode))
-          (done c.in-Done-clocks.is (write-run2.ensures.ran (inside edition_1 a.stop) time_names (λ _. mode c.in-Done.kind)))); at_value = (
+          (done c.in-Done-clocks.is (write-run2.ensures.ran (inside edition_1 a.stop) time_names (λ _. mode c.in-Done.kind))));
+      at_value = (
         omega (
           arith,
           (moved_done c.in-Done.is write-run.ensures.moved).0,
@@ -50,7 +52,8 @@ write_mode-requires c =
           pre.at_value.0,
         ),
         pre.at_value.1,
-      ) }
+      );
+    }
 
 pub returns : goal.returns
 unfolding run sign_of width_of size_of

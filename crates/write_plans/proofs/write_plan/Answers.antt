@@ -19,8 +19,11 @@ pub write_ended-requires : goal.write_ended-requires
 unfolding run sign_of width_of size_of
 write_ended-requires c =
     let pre = c.requires in
-    let write-run = c.write_run-head in record { placed = placed_on pre.placed (done c.in-Done.is (write-run.ensures.ran (outside edition_1) plan_names (λ _. plan "plan_length" hopping))); at_value = omega
-          (arith, (moved_done c.in-Done.is write-run.ensures.moved).0, pre.at_value) }
+    let write-run = c.write_run-head in record {
+      placed = placed_on pre.placed (done c.in-Done.is (write-run.ensures.ran (outside edition_1) plan_names (λ _. plan "plan_length" hopping)));
+      at_value = omega
+          (arith, (moved_done c.in-Done.is write-run.ensures.moved).0, pre.at_value);
+    }
 
 pub returns : goal.returns
 unfolding beamhopping run sign_of width_of

@@ -27,8 +27,12 @@ overflow_add-need c =
     )
 
 pub returns-then-have-need : goal.returns-then-have-need
-returns-then-have-need c = record { ran = λ e nms k. pass_stops c.loop-i.invariant c.loop-i-test.true
-      c.width_of-width.ensures (omega arith) e nms k; result_bound = pow_pos _; moved = record { to = tt } }
+returns-then-have-need c = record {
+  ran = λ e nms k. pass_stops c.loop-i.invariant c.loop-i-test.true
+      c.width_of-width.ensures (omega arith) e nms k;
+  result_bound = pow_pos _;
+  moved = record { to = tt };
+}
 
 pub size_at-size-requires : goal.size_at-size-requires
 size_at-size-requires c =

@@ -28,9 +28,13 @@ pub returns-in_default : goal.returns-in_default
 returns-in_default c =
     let a = c.args in
     let l = c.loop-i in
-    let test' = c.loop-i-test in record { ran = λ e nms k. stop (line (head_name (drop l.i nms)) (get_or a.marks.now l.i 0)) (l.invariant.0 nms)
+    let test' = c.loop-i-test in record {
+      ran = λ e nms k. stop (line (head_name (drop l.i nms)) (get_or a.marks.now l.i 0)) (l.invariant.0 nms)
           (λ e k. c.write_line-step.ensures.ran e (head_name (drop l.i nms)) k)
-          (λ k. lines_next nms _ _ _ k test'.true) c.in_default.is e k k; result_bound = no_last last_of c.in_default.is _ refl; moved = moved_no _ _ _ c.in_default.is }
+          (λ k. lines_next nms _ _ _ k test'.true) c.in_default.is e k k;
+      result_bound = no_last last_of c.in_default.is _ refl;
+      moved = moved_no _ _ _ c.in_default.is;
+    }
 
 pub loop-i-preserved : goal.loop-i-preserved
 loop-i-preserved c =
@@ -49,5 +53,9 @@ loop-i-preserved c =
 pub returns : goal.returns
 returns c =
     let z : c.loop-i.i ≡ length c.args.marks.now = omega arith in
-    let a = c.args in record { ran = λ e nms k. record { to = ended (c.loop-i.invariant.0 nms) e k _ (lines_end nms a.marks.now _ c.loop-i.i k z) }; result_bound = rw (← z) c.loop-i.invariant.2; moved = record
-            { to = balance_end a.marks.now a.at a.place c.loop-i.here c.loop-i.there c.loop-i.i z c.loop-i.invariant.3 } }
+    let a = c.args in record {
+      ran = λ e nms k. record { to = ended (c.loop-i.invariant.0 nms) e k _ (lines_end nms a.marks.now _ c.loop-i.i k z) };
+      result_bound = rw (← z) c.loop-i.invariant.2;
+      moved = record
+          { to = balance_end a.marks.now a.at a.place c.loop-i.here c.loop-i.there c.loop-i.i z c.loop-i.invariant.3 };
+    }

@@ -33,8 +33,12 @@ pub returns-then-size-eq0 : goal.returns-then-size-eq0
 returns-then-size-eq0 c =
     let a = c.args in
     let w = c.width_of-width.ensures in
-    let o = sized_no a.mark _ c.requires.t c.size_for-size.ensures c.if-size-eq0.true in record { ran = λ e nm k. rw (c.damaged.ensures, ← o.1)
-          (record { to = line_damaged a.body.now e a.at nm a.mark k w (omega arith) c.value_at-v.ensures o.0 }); result_bound = rw c.damaged.ensures (pow_pos _); moved = rw c.damaged.ensures (record { to = tt }) }
+    let o = sized_no a.mark _ c.requires.t c.size_for-size.ensures c.if-size-eq0.true in record {
+      ran = λ e nm k. rw (c.damaged.ensures, ← o.1)
+          (record { to = line_damaged a.body.now e a.at nm a.mark k w (omega arith) c.value_at-v.ensures o.0 });
+      result_bound = rw c.damaged.ensures (pow_pos _);
+      moved = rw c.damaged.ensures (record { to = tt });
+    }
 
 pub shown_of-requires : goal.shown_of-requires
 shown_of-requires c =
@@ -59,6 +63,10 @@ returns c =
     let w = c.width_of-width.ensures in
     let v = c.value_at-v.ensures in
     let o = sized_yes a.mark _ c.size_for-size.ensures c.if-size-eq0.false in
-    let x = c.shown_of in record { ran = λ e nm k. record {
+    let x = c.shown_of in record {
+      ran = λ e nm k. record {
         to = line_done nm a.mark k c.requires.t w o.1 (omega arith) v o.0 (rw (← x.ensures) c.put.ensures);
-      }; result_bound = rw (v, ← w) (value_at_lt a.body.now a.at _); moved = record { to = (omega (arith, w), omega (arith, o.1)) } }
+      };
+      result_bound = rw (v, ← w) (value_at_lt a.body.now a.at _);
+      moved = record { to = (omega (arith, w), omega (arith, o.1)) };
+    }

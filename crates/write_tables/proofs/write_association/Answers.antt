@@ -31,9 +31,12 @@ pub write_run-requires : goal.write_run-requires
 unfolding run sign_of width_of
 write_run-requires c =
     let pre = c.requires in
-    let write-needed = c.write_needed-kind in record { placed = placed_on pre
+    let write-needed = c.write_needed-kind in record {
+      placed = placed_on pre
           (done c.in-Done.is
-          ((starts (need_yes _ _ _ 2 1 _ (omega arith))) (write-needed.ensures.ran (outside edition_1) names.type rest))); t = tt }
+          ((starts (need_yes _ _ _ 2 1 _ (omega arith))) (write-needed.ensures.ran (outside edition_1) names.type rest)));
+      t = tt;
+    }
 
 pub returns-then-association_type-eq1 : goal.returns-then-association_type-eq1
 unfolding association run sign_of width_of
@@ -47,9 +50,12 @@ pub write_run-requires-2 : goal.write_run-requires-2
 unfolding run sign_of width_of
 write_run-requires-2 c =
     let pre = c.requires in
-    let write-needed = c.write_needed-kind in record { placed = placed_on pre
+    let write-needed = c.write_needed-kind in record {
+      placed = placed_on pre
           (done c.in-Done.is
-          ((starts (need_yes _ _ _ 2 1 _ (omega arith))) (write-needed.ensures.ran (outside edition_1) names.type rest))); t = tt }
+          ((starts (need_yes _ _ _ 2 1 _ (omega arith))) (write-needed.ensures.ran (outside edition_1) names.type rest)));
+      t = tt;
+    }
 
 pub returns : goal.returns
 unfolding association run sign_of width_of

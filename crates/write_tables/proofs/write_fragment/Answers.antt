@@ -42,10 +42,13 @@ unfolding run sign_of width_of
 write_needed-centre-requires c =
     let pre = c.requires in
     let write-run = c.write_run-cell in
-    let write-run2 = c.write_run-flag in record { placed = placed_on pre
+    let write-run2 = c.write_run-flag in record {
+      placed = placed_on pre
           (go_on (done c.in-Done.is (write-run.ensures.ran (outside edition_1) names.cell (λ v. u "last_occurrence" 1 (middle v))))
           (done c.in-Done-flag.is
-          (write-run2.ensures.ran (outside edition_1) names.last ((λ _. middle c.in-Done.first))))); t = tt }
+          (write-run2.ensures.ran (outside edition_1) names.last ((λ _. middle c.in-Done.first)))));
+      t = tt;
+    }
 
 pub returns-in_default-centre : goal.returns-in_default-centre
 unfolding fragment run sign_of width_of
@@ -66,12 +69,15 @@ write_lists-requires c =
     let pre = c.requires in
     let write-needed = c.write_needed-centre in
     let write-run = c.write_run-cell in
-    let write-run2 = c.write_run-flag in record { placed = placed_on pre
+    let write-run2 = c.write_run-flag in record {
+      placed = placed_on pre
           (go_on
           (go_on (done c.in-Done.is (write-run.ensures.ran (outside edition_1) names.cell (λ v. u "last_occurrence" 1 (middle v))))
           (done c.in-Done-flag.is (write-run2.ensures.ran (outside edition_1) names.last ((λ _. middle c.in-Done.first)))))
           (done c.in-Done-centre.is
-          ((starts (when_yes _ _ _ _ _ _ (eq-eqb _ _ if1.true))) (write-needed.ensures.ran (outside edition_1) names.centre lists)))); count_bound = omega (arith, last_of_lem last_of c.in-Done-centre.is write-needed.ensures.result_bound) }
+          ((starts (when_yes _ _ _ _ _ _ (eq-eqb _ _ if1.true))) (write-needed.ensures.ran (outside edition_1) names.centre lists))));
+      count_bound = omega (arith, last_of_lem last_of c.in-Done-centre.is write-needed.ensures.result_bound);
+    }
 
 pub returns-then-first-eq1 : goal.returns-then-first-eq1
 unfolding fragment run sign_of width_of
@@ -93,10 +99,13 @@ unfolding run sign_of width_of
 write_run-none-requires c =
     let pre = c.requires in
     let write-run = c.write_run-cell in
-    let write-run2 = c.write_run-flag in record { placed = placed_on pre
+    let write-run2 = c.write_run-flag in record {
+      placed = placed_on pre
           (go_on (done c.in-Done.is (write-run.ensures.ran (outside edition_1) names.cell (λ v. u "last_occurrence" 1 (middle v))))
           (done c.in-Done-flag.is
-          (write-run2.ensures.ran (outside edition_1) names.last ((λ _. middle c.in-Done.first))))); t = tt }
+          (write-run2.ensures.ran (outside edition_1) names.last ((λ _. middle c.in-Done.first)))));
+      t = tt;
+    }
 
 pub returns-in_default-none : goal.returns-in_default-none
 unfolding fragment run sign_of width_of
@@ -117,12 +126,15 @@ write_lists-requires-2 c =
     let pre = c.requires in
     let write-run = c.write_run-cell in
     let write-run2 = c.write_run-flag in
-    let write-run3 = c.write_run-none in record { placed = placed_on pre
+    let write-run3 = c.write_run-none in record {
+      placed = placed_on pre
           (go_on
           (go_on (done c.in-Done.is (write-run.ensures.ran (outside edition_1) names.cell (λ v. u "last_occurrence" 1 (middle v))))
           (done c.in-Done-flag.is (write-run2.ensures.ran (outside edition_1) names.last ((λ _. middle c.in-Done.first)))))
           (done c.in-Done-none.is
-          ((starts (when_no _ _ _ _ _ _ (ne_eqb _ _ if1.false))) (write-run3.ensures.ran (outside edition_1) names.no_centre lists)))); count_bound = omega (arith, last_of_lem last_of c.in-Done-none.is write-run3.ensures.result_bound) }
+          ((starts (when_no _ _ _ _ _ _ (ne_eqb _ _ if1.false))) (write-run3.ensures.ran (outside edition_1) names.no_centre lists))));
+      count_bound = omega (arith, last_of_lem last_of c.in-Done-none.is write-run3.ensures.result_bound);
+    }
 
 pub returns : goal.returns
 unfolding fragment run sign_of width_of

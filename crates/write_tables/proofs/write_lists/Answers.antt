@@ -41,9 +41,13 @@ unfolding run sign_of width_of
 write_counted-systems-requires c =
     let pre = c.requires in
     let write-counted = c.write_counted-ids in
-    let write-run = c.write_run-new in record { placed = placed_on pre.placed
+    let write-run = c.write_run-new in record {
+      placed = placed_on pre.placed
           (go_on (done c.in-Done.is (write-counted.ensures (outside edition_1) names.delivery new))
-          (done c.in-Done-new.is (write-run.ensures.ran (outside edition_1) names.new_count news))); t = tt; count_bound = omega (arith, last_of_lem last_of c.in-Done-new.is write-run.ensures.result_bound) }
+          (done c.in-Done-new.is (write-run.ensures.ran (outside edition_1) names.new_count news)));
+      t = tt;
+      count_bound = omega (arith, last_of_lem last_of c.in-Done-new.is write-run.ensures.result_bound);
+    }
 
 pub returns-in_default-systems : goal.returns-in_default-systems
 unfolding run sign_of width_of
@@ -61,11 +65,14 @@ write_run-old-requires c =
     let pre = c.requires in
     let write-counted = c.write_counted-ids in
     let write-counted2 = c.write_counted-systems in
-    let write-run = c.write_run-new in record { placed = placed_on pre.placed
+    let write-run = c.write_run-new in record {
+      placed = placed_on pre.placed
           (go_on
           (go_on (done c.in-Done.is (write-counted.ensures (outside edition_1) names.delivery new))
           (done c.in-Done-new.is (write-run.ensures.ran (outside edition_1) names.new_count news)))
-          (done c.in-Done-systems.is (write-counted2.ensures (outside edition_1) names.new_system obsolescent))); t = tt }
+          (done c.in-Done-systems.is (write-counted2.ensures (outside edition_1) names.new_system obsolescent)));
+      t = tt;
+    }
 
 pub returns-in_default-old : goal.returns-in_default-old
 unfolding run sign_of width_of
@@ -87,13 +94,17 @@ write_counted-requires c =
     let write-counted = c.write_counted-ids in
     let write-counted2 = c.write_counted-systems in
     let write-run = c.write_run-new in
-    let write-run2 = c.write_run-old in record { placed = placed_on pre.placed
+    let write-run2 = c.write_run-old in record {
+      placed = placed_on pre.placed
           (go_on
           (go_on
           (go_on (done c.in-Done.is (write-counted.ensures (outside edition_1) names.delivery new))
           (done c.in-Done-new.is (write-run.ensures.ran (outside edition_1) names.new_count news)))
           (done c.in-Done-systems.is (write-counted2.ensures (outside edition_1) names.new_system obsolescent)))
-          (done c.in-Done-old.is (write-run2.ensures.ran (outside edition_1) names.old_count olds))); t = tt; count_bound = omega (arith, last_of_lem last_of c.in-Done-old.is write-run2.ensures.result_bound) }
+          (done c.in-Done-old.is (write-run2.ensures.ran (outside edition_1) names.old_count olds)));
+      t = tt;
+      count_bound = omega (arith, last_of_lem last_of c.in-Done-old.is write-run2.ensures.result_bound);
+    }
 
 pub returns : goal.returns
 unfolding run sign_of width_of
