@@ -30,7 +30,7 @@ def crates():
     for line in open(os.path.join(ROOT, "crates.txt")):
         if ":" in line and not line.startswith("#"):
             name, deps = line.split(":")
-            found[name.strip()] = deps.split()
+            found[name.split()[0]] = deps.split()
     return found
 
 
@@ -39,35 +39,22 @@ class Copy:
 
     def __init__(self):
         self.path = tempfile.mkdtemp(prefix="edits-")
-        for part in ("crates", "target", "crates.txt"):
+        for part in ("crates", "crates.txt"):
             source = os.path.join(ROOT, part)
             (shutil.copytree if os.path.isdir(source) else shutil.copy)(source, os.path.join(self.path, part))
 
     def check(self, crate):
         """'proved', 'compile' where the edit is no program or no definition, or the first thing that is refused."""
-        run = subprocess.run(["rt", "check", crate], cwd=self.path, capture_output=True, text=True,
-                             env={**os.environ, "RT_JOBS": "1"})
+        run = subprocess.run(["rt", "check", "--jobs", "1"], cwd=os.path.join(self.path, "crates", crate),
+                             capture_output=True, text=True)
         log = run.stdout + run.stderr
         if run.returncode == 0:
             return "proved"
-        if "logic=not-proved" not in log:
-            return "output" if "rt: %s proved" % crate in log else "compile"
-        first = re.search(r"crates/%s/(\S+?): error: `([^`]*)`" % crate, log) or re.search(r"crates/%s/(\S+?): .*\(`([^`]*)`\)" % crate, log)
-        if first and first.group(1).startswith("specs/"):
+        if "logic=not-proved" not in log or re.search(r"^(\./)?(src|specs)/\S+: error", log, re.M):
             return "compile"
+        first = re.search(r"^\./(\S+?): error: `([^`]*)`", log, re.M)
+        first = first or re.search(r"^(fn \S+): no proof: .*did not prove `([^`]*)`", log, re.M)
         return "%s %s" % (first.group(1), first.group(2)) if first else "a function"
-
-    def restore(self, touched):
-        """What was proved with the edit is as it was."""
-        for crate in touched:
-            for part in ("stamp/%s", "rlib/%s.rlib", "bin/%s", "inc/%s"):
-                name = part % crate
-                here, there = (os.path.join(p, "target", name) for p in (self.path, ROOT))
-                shutil.rmtree(here, ignore_errors=True) if os.path.isdir(here) else os.path.exists(here) and os.remove(here)
-                if os.path.isdir(there):
-                    shutil.copytree(there, here)
-                elif os.path.exists(there):
-                    shutil.copy(there, here)
 
     def attempt(self, crate, path, edit, order):
         """Where the edit is refused, or None if it is nowhere."""
@@ -78,18 +65,15 @@ class Copy:
         assert text[i : i + len(old)] == old
         text[i : i + len(old)] = new
         open(file, "w").write("\n".join(text))
-        touched = []
         try:
             users = users_of(crate, before.split("\n"), i, order) if "/specs/" in path else []
             for c in [crate] + users:
-                touched.append(c)
                 verdict = self.check(c)
                 if verdict != "proved":
                     return c, verdict
             return None
         finally:
             open(file, "w").write(before)
-            self.restore(touched)
 
 
 def users_of(crate, text, i, order):
