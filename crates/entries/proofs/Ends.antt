@@ -10,7 +10,7 @@ use Rattle.format.specs.Whole.{layout}
 use Rattle.format.specs.At.{read}
 use Rattle.format.specs.declared.Refusal.{Refusal}
 use Rattle.format.specs.declared.EntryEnd.{EntryEnd}
-use Rattle.format.specs.declared.EntryEnd.TheVariants.{At, Refused}
+use Rattle.format.specs.declared.EntryEnd.TheVariants.{Refused}
 use Rattle.format.proofs.Good.{Fine, Least}
 use Rattle.format.proofs.FineTables.{fine_position, least_position, fine_fragment, least_fragment, fine_beamhopping, least_beamhopping, fine_position3, least_position3}
 use Rattle.format.proofs.ReadLaws.{through}

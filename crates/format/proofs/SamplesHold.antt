@@ -1,17 +1,13 @@
 -- The samples of specs/Samples: each list is shown whole, by computation.
 -- Assumes nothing.
-use Rattle.std.specs.Prelude.{ℕ, ◌+◌, ◌≡◌, refl, List, [], ◌∷◌, ◌++◌, map, ℤ, pos, negsuc, length, replicate}
+use Rattle.std.specs.Prelude.{refl}
 use Rattle.format.specs.Digits.{digits, value, bits_of, bytes_of, twos, splice}
-use Rattle.format.specs.Syntax.{Edition, edition_1, edition_2, got, refused, and_then}
 use Rattle.format.specs.Tables.{position, fragment, association, beamhopping, header, position3}
 use Rattle.format.specs.Body.{read_body, laid}
 use Rattle.format.specs.Ledger.{ledger, read_ledger}
-use Rattle.format.specs.Whole.{entries_of, walk, read_as, body_read_as, body_read, laids, ledgers, body_of, content_of, version, ledger_of, counted, content_as, id_of, ledger_read}
-use Rattle.format.specs.ByName.{the_int, first_by}
-use Rattle.format.specs.Refusals.{refuse}
+use Rattle.format.specs.Whole.{entries_of, walk, read_as, body_read_as, laids, ledgers, body_of, content_of, ledger_of, counted, content_as, ledger_read}
+use Rattle.format.specs.ByName.{first_by}
 use Rattle.format.specs.Calls.{answer, left, filed, relaid, restored, write_answer, write_left, read_answer, read_left}
-use Rattle.format.specs.declared.Answer.{Answer}
-use Rattle.format.specs.declared.Answer.TheVariants.{Done, Refused}
 use Rattle.format.specs.Samples.{AllHold, p1_to_p12, ledger_samples, edition_2_samples, extension_samples, call_samples}
 
 pub samples_hold : AllHold p1_to_p12

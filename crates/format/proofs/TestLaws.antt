@@ -2,7 +2,7 @@
 -- Assumes nothing.
 use mathlib.Core.Path.{◌≡◌, refl}
 use mathlib.Core.Bool.{Bool, true, false, cond}
-use mathlib.Core.List.{List, [], ◌∷◌}
+use mathlib.Core.List.{List, ◌∷◌}
 use Prim.Native.Nat.{ℕ, zero, suc, ◌+◌, ◌*◌, ◌-◌, ◌<◌}
 use native.Mathlib.Omega.{arith}
 use lib.Dec.{leb}
@@ -10,9 +10,9 @@ use lib.ListN.{length, take, drop}
 use borrow.Author.Tests.{leb-false}
 use Rattle.format.specs.Digits.{value, bits_of}
 use Rattle.format.specs.Syntax.{Syntax, end, field, when, need, at_most, slots, plan, raw, before, Field, num, flags, Parse, got, refused, and_then, push}
-use Rattle.format.specs.Body.{wholes, planned, read_body}
+use Rattle.format.specs.Body.{wholes, read_body}
 use Rattle.format.specs.Ledger.{size}
-use Rattle.format.specs.Whole.{Layout, sole, many, opaque, layout_before, Table, one, list, walk, entries, read_as, body_read_as}
+use Rattle.format.specs.Whole.{Layout, sole, many, opaque, layout_before, walk, entries, read_as, body_read_as}
 use Rattle.format.proofs.Good.{Fine}
 use Rattle.format.proofs.TableLaws.{FineLayout}
 

@@ -1,16 +1,13 @@
 -- Document 01's samples P1 to P12, and samples of ledgers of both editions and of clocks' extensions: that each list
 -- holds is shown in proofs/SamplesHold, by computation.
 -- Assumes nothing.
-use Rattle.std.specs.Prelude.{ℕ, ◌+◌, ◌≡◌, refl, List, [], ◌∷◌, ◌++◌, map, ℤ, pos, negsuc, length, replicate}
-use Rattle.format.specs.Digits.{digits, value, bits_of, bytes_of, twos, splice}
+use Rattle.std.specs.Prelude.{ℕ, ◌+◌, ◌≡◌, List, [], ◌∷◌, ◌++◌, map, ℤ, pos, negsuc, length, replicate}
+use Rattle.format.specs.Digits.{digits}
 use Rattle.format.specs.Syntax.{Edition, edition_1, edition_2, got, refused, and_then}
-use Rattle.format.specs.Tables.{position, fragment, association, beamhopping, header, position3}
-use Rattle.format.specs.Body.{read_body, laid}
-use Rattle.format.specs.Ledger.{ledger, read_ledger}
-use Rattle.format.specs.Whole.{entries_of, walk, read_as, body_read_as, body_read, laids, ledgers, body_of, content_of, version, ledger_of, counted, content_as, id_of, ledger_read}
-use Rattle.format.specs.ByName.{the_int, first_by}
+use Rattle.format.specs.Whole.{entries_of, body_read, version, id_of}
+use Rattle.format.specs.ByName.{the_int}
 use Rattle.format.specs.Refusals.{refuse}
-use Rattle.format.specs.Calls.{answer, left, filed, relaid, restored, write_answer, write_left, read_answer, read_left}
+use Rattle.format.specs.Calls.{filed, relaid, restored, write_answer, write_left, read_answer, read_left}
 use Rattle.format.specs.declared.Answer.{Answer}
 use Rattle.format.specs.declared.Answer.TheVariants.{Done, Refused}
 

@@ -19,7 +19,6 @@ use Rattle.format.proofs.TableLaws.{fine_layout, body_form_of}
 use Rattle.format.proofs.Demand.{body_all, accepted_before, accepted_good, ledger_length, ledger_again, id_of_lem, edition_of_lem}
 use Rattle.format.proofs.CallLaws.{wrote_accepted}
 use Rattle.ledger_reader.specs.Measured.{measured, measure_of}
-use Rattle.ledger_reader.specs.declared.Measure.{Measure}
 use Rattle.ledger_reader.specs.declared.Measure.TheVariants as measure
 use Rattle.plain_body.specs.Bodies.{body_answer, body_left, body_measure, answer_refusal}
 

@@ -3,7 +3,7 @@
 -- are equal to.
 -- Assumes nothing.
 use Prim.Native.Nat.{ℕ, zero, suc, ◌+◌, ◌*◌, ◌-◌, ◌≤◌}
-use mathlib.Core.Path.{◌≡◌, refl, sym, ap, ◌∙◌}
+use mathlib.Core.Path.{◌≡◌, refl, ap}
 use mathlib.Core.Bool.{Bool, true, false, cond}
 use mathlib.Core.List.{List, [], ◌∷◌}
 use native.Mathlib.Omega.{arith}
@@ -24,7 +24,6 @@ use Rattle.sat.specs.SatBody.{list_part, association_body, position3_of, positio
 use Rattle.sat.specs.declared.CountAnswer.TheVariants as count
 use Rattle.sat.specs.declared.SatBody.{SatBody}
 use Rattle.sat.specs.declared.SatBody.TheVariants.{PositionV2, CellFragment, TimeAssociation, BeamhoppingTimePlan, PositionV3, Raw}
-use Rattle.sat.specs.declared.SatBodyAnswer.{SatBodyAnswer}
 use Rattle.sat.specs.declared.SatBodyAnswer.TheVariants.{Body, Refused}
 
 -- a body's list of entries is the part p

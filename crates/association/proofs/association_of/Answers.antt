@@ -1,6 +1,5 @@
 -- `association_of` meets its contract: the clock, and then the parts around it.
 -- Assumes nothing.
-use borrow.Author.Rules.{rules}
 use Rattle.bits.proofs.Answers.{value_fits}
 use Rattle.association.proofs.Associations.{clock_refused, all_read}
 use Rattle.association.proofs.association_of.Goals as goal

@@ -1,7 +1,6 @@
 -- The refusal in an answer, by its cases.
 -- Assumes nothing.
 use Rattle.association.specs.Association.{refusal_of}
-use borrow.Author.Rules.{rules}
 use Rattle.association.proofs.association_refusal.Goals as goal
 
 pub returns-in-Entry : goal.returns-in-Entry

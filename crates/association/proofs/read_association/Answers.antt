@@ -1,7 +1,6 @@
 -- The two tests, and then the whole.
 -- Assumes nothing.
 use Rattle.association.proofs.Associations.{none_there, too_few}
-use borrow.Author.Rules.{rules}
 use Rattle.association.proofs.read_association.Goals as goal
 
 pub returns-then-have-lt1 : goal.returns-then-have-lt1

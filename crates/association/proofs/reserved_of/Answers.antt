@@ -1,8 +1,6 @@
 -- The reserved bits, by the test.
 -- Assumes nothing.
-use Rattle.bits.proofs.Tests.{tests}
 use Rattle.bits.proofs.Answers.{value_fits}
-use borrow.Author.Rules.{rules}
 use Rattle.association.proofs.reserved_of.Goals as goal
 
 pub overflow_cast-result : goal.overflow_cast-result

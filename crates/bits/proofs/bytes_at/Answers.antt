@@ -1,9 +1,8 @@
 -- `bytes_at` meets its contract. The loop's invariant: the number so far is that of the first i bytes, and below 256 ^ i.
 -- Assumes nothing.
-use Prim.Native.Nat.{◌+◌, ◌-◌, ◌^◌, ◌≤◌, ◌<◌}
-use mathlib.Core.Path.{◌≡◌, refl, sym}
+use Prim.Native.Nat.{◌+◌}
+use mathlib.Core.Path.{refl, sym}
 use native.Mathlib.Omega.{arith}
-use lib.ListN.{take, drop}
 use Rattle.format.specs.Digits as format
 use Rattle.bits.proofs.Words.{value_more, more_lt, word_lt}
 use Rattle.bits.proofs.bytes_at.Goals as goal

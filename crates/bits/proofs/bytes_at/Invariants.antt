@@ -1,11 +1,9 @@
 -- `bytes_at` meets its contract. The loop's invariant: the number so far is that of the first i bytes, and below 256 ^ i.
 -- Assumes nothing.
-use Prim.Native.Nat.{◌+◌, ◌-◌, ◌^◌, ◌≤◌, ◌<◌}
-use mathlib.Core.Path.{◌≡◌, refl, sym}
-use native.Mathlib.Omega.{arith}
+use Prim.Native.Nat.{◌-◌, ◌^◌, ◌≤◌, ◌<◌}
+use mathlib.Core.Path.{◌≡◌}
 use lib.ListN.{take, drop}
 use Rattle.format.specs.Digits as format
-use Rattle.bits.proofs.Words.{value_more, more_lt, word_lt}
 use Rattle.bits.proofs.bytes_at.Given as goal
 
 abbrev pub invariant-loop-i : goal.invariant-loop-i

@@ -3,7 +3,6 @@
 use mathlib.Core.Path.{refl}
 use native.Mathlib.Omega.{arith}
 use Rattle.bits.proofs.Spans.{at_front}
-use borrow.Author.Rules.{rules}
 use Rattle.bits.proofs.first_bits.Goals as goal
 
 pub returns : goal.returns

@@ -2,7 +2,6 @@
 -- Assumes nothing.
 use native.Mathlib.Omega.{arith}
 use Rattle.bits.proofs.Spans.{Joined, joins}
-use borrow.Author.Rules.{rules}
 use Rattle.bits.proofs.joined.Goals as goal
 use Rattle.bits.proofs.joined.Goals.{Start}
 

@@ -2,10 +2,8 @@
 -- Assumes nothing.
 use mathlib.Core.Path.{refl}
 use native.Mathlib.Omega.{arith}
-use lib.Pow.{pow_pos}
 use Rattle.bits.proofs.Values.{one_shl}
 use Rattle.bits.proofs.Spans.{at_back}
-use borrow.Author.Rules.{rules}
 use Rattle.bits.proofs.last_bits.Goals as goal
 
 pub returns : goal.returns

@@ -1,7 +1,6 @@
 -- `pair_at` meets its contract, by its bytes.
 -- Assumes nothing.
 use native.Mathlib.Omega.{arith}
-use borrow.Author.Rules.{rules}
 use Rattle.bits.proofs.Words.{spelt_two}
 use Rattle.bits.proofs.pair_at.Goals as goal
 

@@ -1,10 +1,6 @@
 -- `patched` meets its contract, by the law of the same name.
 -- Assumes nothing.
-use Prim.Native.Nat.{◌-◌}
 use native.Mathlib.Omega.{arith}
-use lib.Pow.{pow_pos}
-use borrow.Author.Rules.{rules}
-use Rattle.bits.proofs.Values.{one_shl}
 use Rattle.bits.proofs.Patches as patches
 use Rattle.bits.proofs.patched.Goals as goal
 use Rattle.bits.proofs.patched.Goals.{Start}

@@ -1,7 +1,6 @@
 -- `put_byte` meets its contract.
 -- Assumes nothing.
 use native.Mathlib.Omega.{arith}
-use borrow.Author.Rules.{rules}
 use Rattle.bits.proofs.Words.{put_one}
 use Rattle.bits.proofs.put_byte.Goals as goal
 

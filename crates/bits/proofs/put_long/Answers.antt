@@ -6,7 +6,6 @@ use native.Mathlib.Omega.{arith}
 use Rattle.format.specs.Digits.{digits, splice}
 use Rattle.bits.proofs.Groups.{pow_256}
 use Rattle.bits.proofs.Words.{put_both}
-use borrow.Author.Rules.{rules}
 use Rattle.bits.proofs.put_long.Goals as goal
 
 pub returns : goal.returns

@@ -1,8 +1,6 @@
 -- `put_pair` meets its contract.
 -- Assumes nothing.
 use native.Mathlib.Omega.{arith}
-use lib.ListN.{length-set}
-use borrow.Author.Rules.{rules}
 use Rattle.bits.proofs.Words.{put_two}
 use Rattle.bits.proofs.put_pair.Goals as goal
 

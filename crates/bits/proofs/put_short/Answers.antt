@@ -5,7 +5,6 @@ use native.Mathlib.Omega.{arith}
 use Rattle.bits.proofs.Splices.{splice_nil}
 use Rattle.bits.proofs.Groups.{digits_none}
 use Rattle.bits.proofs.Words.{put_both}
-use borrow.Author.Rules.{rules}
 use Rattle.bits.proofs.put_short.Goals as goal
 
 pub returns-then-k-eq3 : goal.returns-then-k-eq3

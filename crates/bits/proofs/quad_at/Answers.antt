@@ -1,7 +1,6 @@
 -- `quad_at` meets its contract, by its bytes.
 -- Assumes nothing.
 use native.Mathlib.Omega.{arith}
-use borrow.Author.Rules.{rules}
 use Rattle.bits.proofs.Words.{spelt_four}
 use Rattle.bits.proofs.quad_at.Goals as goal
 

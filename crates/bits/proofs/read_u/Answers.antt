@@ -1,9 +1,6 @@
 -- `read_u` meets its contract, by the test that it makes.
 -- Assumes nothing.
-use native.Mathlib.Omega.{arith}
-use borrow.Author.Rules.{rules}
 use Rattle.bits.specs.Read.{read_at}
-use Rattle.bits.proofs.Places.{within_fits}
 use Rattle.bits.proofs.Tests.{tests}
 use Rattle.bits.proofs.read_u.Goals as goal
 

@@ -1,6 +1,5 @@
 -- `refusal_of` meets its contract, by the case of the answer.
 -- Assumes nothing.
-use borrow.Author.Rules.{rules}
 use Rattle.bits.specs.Read.{refusal_of}
 use Rattle.bits.proofs.refusal_of.Goals as goal
 

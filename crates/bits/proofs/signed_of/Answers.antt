@@ -1,7 +1,6 @@
 -- `signed_of` meets its contract, by the top bit.
 -- Assumes nothing.
 use native.Mathlib.Omega.{arith}
-use borrow.Author.Rules.{rules}
 use Rattle.bits.proofs.Signs.{Half, half, positive, Negative, negative}
 use Rattle.bits.proofs.signed_of.Goals as goal
 use Rattle.bits.proofs.signed_of.Goals.{Else-v-half, Start}

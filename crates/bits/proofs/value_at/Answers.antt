@@ -1,8 +1,6 @@
 -- `value_at` meets its contract: a word is cut, or the bits are taken byte by byte.
 -- Assumes nothing.
 use native.Mathlib.Omega.{arith}
-use borrow.Author.Tests.{leb-true}
-use borrow.Author.Rules.{rules}
 use Rattle.bits.proofs.Cuts.{cut_at}
 use Rattle.bits.proofs.value_at.Goals as goal
 

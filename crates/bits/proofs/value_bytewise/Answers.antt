@@ -1,11 +1,9 @@
 -- `value_bytewise` meets its contract. The loop's invariant: the number so far is that of the bits from `at` to the place.
 -- Assumes nothing.
-use Prim.Native.Nat.{◌-◌, ◌/◌, ◌≤◌}
-use mathlib.Core.Path.{◌≡◌, sym, ap, ◌∙◌}
+use mathlib.Core.Path.{sym, ap, ◌∙◌}
 use native.Mathlib.Nat.{sub_self}
 use native.Mathlib.Omega.{arith}
 use Rattle.format.specs.Digits.{value_at}
-use Rattle.bits.proofs.Places.{within_fits}
 use Rattle.bits.proofs.Values as values
 use Rattle.bits.proofs.value_bytewise.Goals as goal
 use Rattle.bits.proofs.value_bytewise.Goals.{After-window-low}

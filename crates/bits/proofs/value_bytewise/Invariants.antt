@@ -1,12 +1,8 @@
 -- `value_bytewise` meets its contract. The loop's invariant: the number so far is that of the bits from `at` to the place.
 -- Assumes nothing.
-use Prim.Native.Nat.{◌-◌, ◌/◌, ◌≤◌}
-use mathlib.Core.Path.{◌≡◌, sym, ap, ◌∙◌}
-use native.Mathlib.Nat.{sub_self}
-use native.Mathlib.Omega.{arith}
+use Prim.Native.Nat.{◌-◌, ◌≤◌}
+use mathlib.Core.Path.{◌≡◌}
 use Rattle.format.specs.Digits.{value_at}
-use Rattle.bits.proofs.Places.{within_fits}
-use Rattle.bits.proofs.Values as values
 use Rattle.bits.proofs.value_bytewise.Given as goal
 
 abbrev pub invariant-loop-here : goal.invariant-loop-here

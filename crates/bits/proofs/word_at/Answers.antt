@@ -1,7 +1,6 @@
 -- `word_at` meets its contract, by its bytes.
 -- Assumes nothing.
 use native.Mathlib.Omega.{arith}
-use borrow.Author.Rules.{rules}
 use Rattle.bits.proofs.Words.{spelt_eight}
 use Rattle.bits.proofs.word_at.Goals as goal
 

@@ -1,15 +1,9 @@
 -- `write_bytewise` meets its contract. The loop's invariant: the bits from `at` to the place are stored, and no others changed.
 -- Assumes nothing.
-use Prim.Native.Nat.{◌+◌, ◌-◌, ◌/◌, ◌^◌, ◌≤◌}
-use mathlib.Core.Path.{◌≡◌, refl, sym}
-use native.Mathlib.Nat.{div-one, mod-lt}
-use native.Mathlib.Omega.{arith}
-use lib.ListN.{length, length-set}
-use lib.Pow.{pow_pos}
+use Prim.Native.Nat.{◌-◌, ◌/◌, ◌^◌, ◌≤◌}
+use mathlib.Core.Path.{◌≡◌}
+use lib.ListN.{length}
 use Rattle.format.specs.Digits.{digits, bits_of, splice}
-use Rattle.bits.proofs.Splices.{splice_nil}
-use Rattle.bits.proofs.Groups.{digits_none}
-use Rattle.bits.proofs.Patches.{write_turn}
 use Rattle.bits.proofs.write_bytewise.Given as goal
 
 abbrev pub invariant-loop-place : goal.invariant-loop-place

@@ -2,10 +2,8 @@
 -- Assumes nothing.
 use Prim.Native.Nat.{◌+◌, ◌*◌, ◌/◌, ◌%◌, ◌^◌}
 use mathlib.Core.Path.{◌≡◌}
-use native.Mathlib.Nat.{mod-lt, div-one}
+use native.Mathlib.Nat.{div-one}
 use native.Mathlib.Omega.{arith}
-use lib.Pow.{pow_pos}
-use borrow.Author.Rules.{rules}
 use Rattle.format.specs.Digits.{digits}
 use Rattle.format.proofs.DigitLaws.{length_digits}
 use Rattle.bits.proofs.Groups.{low_digits}

@@ -3,8 +3,6 @@
 use Prim.Native.Nat.{◌*◌, ◌/◌}
 use mathlib.Core.Path.{◌≡◌}
 use native.Mathlib.Omega.{arith}
-use borrow.Author.Tests.{eqb-true}
-use borrow.Author.Rules.{rules}
 use Rattle.bits.proofs.Groups.{put_bits}
 use Rattle.bits.proofs.write_u.Goals as goal
 

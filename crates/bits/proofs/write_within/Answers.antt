@@ -8,7 +8,6 @@ use lib.Pow.{pow_mono}
 use Rattle.format.specs.Digits.{digits, value_at, splice}
 use Rattle.bits.proofs.Values.{value_at_lt}
 use Rattle.bits.proofs.Spans.{spanned}
-use borrow.Author.Rules.{rules}
 use Rattle.bits.proofs.write_within.Goals as goal
 
 pub joined-requires : goal.joined-requires

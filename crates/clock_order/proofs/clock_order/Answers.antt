@@ -6,7 +6,6 @@ use Rattle.clock_order.specs.Order.{clock_order}
 use Rattle.clock_order.specs.declared.ClockOrder.{ClockOrder}
 use Rattle.clock_order.specs.declared.ClockOrder.TheVariants.{Earlier, Same, Later, Opposite}
 use Rattle.clock_order.proofs.Ways.{By, by_clock_order}
-use borrow.Author.Rules.{rules}
 use Rattle.clock_order.proofs.clock_order.Goals as goal
 use Rattle.clock_order.proofs.clock_order.Goals.{After-forward_ticks-way}
 

@@ -2,7 +2,6 @@
 -- Assumes nothing.
 use native.Mathlib.Omega.{arith}
 use Rattle.clock_order.specs.Clock.{forward}
-use borrow.Author.Rules.{rules}
 use Rattle.clock_order.proofs.forward_ticks.Goals as goal
 
 pub returns-then-start-goal : goal.returns-then-start-goal

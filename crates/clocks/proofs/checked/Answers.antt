@@ -1,7 +1,6 @@
 -- `checked` meets its contract: by the test.
 -- Assumes nothing.
 use mathlib.Core.Path.{refl}
-use borrow.Author.Rules.{rules}
 use Rattle.bits.proofs.Tests.{at_most, not_at_most}
 use Rattle.clocks.specs.Inner.{tested}
 use Rattle.clocks.proofs.checked.Goals as goal

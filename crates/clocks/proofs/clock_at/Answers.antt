@@ -1,7 +1,6 @@
 -- A clock that is all there: a field at a time.
 -- Assumes nothing.
 use Rattle.bits.proofs.Answers.{value_fits}
-use borrow.Author.Rules.{rules}
 use Rattle.clocks.proofs.clock_at.Goals as goal
 
 pub overflow_cast-result : goal.overflow_cast-result

@@ -1,7 +1,6 @@
 -- The refusal in an answer, by its cases.
 -- Assumes nothing.
 use Rattle.clocks.specs.Clocks.{refusal_of}
-use borrow.Author.Rules.{rules}
 use Rattle.clocks.proofs.clock_refusal.Goals as goal
 
 pub returns-in-Read : goal.returns-in-Read

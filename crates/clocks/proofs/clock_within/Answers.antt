@@ -1,6 +1,5 @@
 -- `clock_within` meets its contract: the fields, and then the test.
 -- Assumes nothing.
-use borrow.Author.Rules.{rules}
 use Rattle.clocks.proofs.Tested.{within}
 use Rattle.clocks.proofs.clock_within.Goals as goal
 

@@ -1,6 +1,5 @@
 -- `read_clock` meets its contract: the fields by the case of their answer, and then the test.
 -- Assumes nothing.
-use borrow.Author.Rules.{rules}
 use Rattle.clocks.proofs.Tested.{read_tested, fields_refused}
 use Rattle.clocks.proofs.read_clock.Goals as goal
 

@@ -1,7 +1,6 @@
 -- A stamp that is all there: a field at a time.
 -- Assumes nothing.
 use Rattle.bits.proofs.Answers.{value_fits}
-use borrow.Author.Rules.{rules}
 use Rattle.clocks.proofs.stamp_at.Goals as goal
 
 pub overflow_cast-result : goal.overflow_cast-result

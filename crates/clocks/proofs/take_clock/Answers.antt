@@ -1,6 +1,6 @@
 -- `take_clock` meets its contract: behind each read by the case of its answer, as Fields has them.
 -- Assumes nothing.
-use Rattle.std.proofs.Common.{arith, sym}
+use Rattle.std.proofs.Common.{arith}
 use Rattle.bits.proofs.Answers.{got_fits}
 use Rattle.clocks.proofs.Fields.{after, cut₁, cut₂, cut₃, whole}
 use Rattle.clocks.proofs.Kept.{skipped, read_there, past, placed}

@@ -1,6 +1,5 @@
 -- `end_refusal` meets its contract, by the case of the answer.
 -- Assumes nothing.
-use borrow.Author.Rules.{rules}
 use Rattle.entries.specs.Entries.{end_refusal}
 use Rattle.entries.proofs.end_refusal.Goals as goal
 

@@ -1,7 +1,6 @@
 -- `fragment_end` meets its contract: of what the fragment's reader answers, the place behind it.
 -- Assumes nothing.
 use mathlib.Core.Path.{refl}
-use borrow.Author.Rules.{rules}
 use Rattle.format.specs.Tables.{fragment}
 use Rattle.format.specs.At.{end_of}
 use Rattle.format.specs.declared.EntryEnd.{EntryEnd}

@@ -1,8 +1,6 @@
 -- `head_end` meets its contract: the header under id 4, and 0 under the other ids.
 -- Assumes nothing.
 use mathlib.Core.Path.{◌≡◌, refl}
-use native.Mathlib.Omega.{arith}
-use borrow.Author.Rules.{rules}
 use Rattle.format.specs.Tables.{header}
 use Rattle.format.specs.At.{end_of}
 use Rattle.format.specs.declared.EntryEnd.{EntryEnd}

@@ -1,7 +1,6 @@
 -- `plan_end` meets its contract: of what the plan's reader answers, the place behind it.
 -- Assumes nothing.
 use mathlib.Core.Path.{refl}
-use borrow.Author.Rules.{rules}
 use Rattle.format.specs.Tables.{beamhopping}
 use Rattle.format.specs.At.{end_of}
 use Rattle.format.specs.declared.EntryEnd.{EntryEnd}

@@ -1,14 +1,9 @@
 -- `seek_entries` meets its contract: an entry a turn; the law of places says what the loop has seen.
 -- Assumes nothing.
 use mathlib.Core.Path.{sym, ◌∙◌, subst}
-use mathlib.Core.Logic.{⊎_elim}
-use Prim.Native.Nat.{◌-◌, ◌*◌}
 use native.Mathlib.Omega.{arith}
-use borrow.Author.Rules.{rules}
-use lib.ListN.{length}
-use Rattle.format.specs.Whole.{layout}
 use Rattle.format.proofs.StartLaws as laws
-use Rattle.entries.specs.Entries.{IsList, entry_syntax, least_bits}
+use Rattle.entries.specs.Entries.{entry_syntax, least_bits}
 use Rattle.entries.specs.declared.Walked.TheVariants.{Entries, Refused}
 use Rattle.entries.proofs.Ends.{fine_entry, least_entry, byte_entry, told}
 use Rattle.entries.proofs.seek_entries.Goals as goal

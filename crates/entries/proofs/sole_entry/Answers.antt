@@ -2,12 +2,10 @@
 -- Assumes nothing.
 use mathlib.Core.Path.{◌≡◌, refl, sym}
 use native.Mathlib.Omega.{arith}
-use borrow.Author.Rules.{rules}
 use Rattle.format.specs.Tables.{association}
 use Rattle.format.specs.At.{end_of}
 use Rattle.format.specs.declared.EntryEnd.{EntryEnd}
 use Rattle.format.specs.declared.EntryEnd.TheVariants as end
-use Rattle.bits.proofs.Places.{within_fits}
 use Rattle.association.specs.Association.{association_of, association_at, refusal_of}
 use Rattle.association.specs.declared.TimeAssociationAnswer.{TimeAssociationAnswer}
 use Rattle.association.specs.declared.TimeAssociationAnswer.TheVariants.{Entry, Refused}

@@ -3,7 +3,6 @@
 use mathlib.Core.Path.{◌≡◌, sym, ◌∙◌}
 use Prim.Native.Nat.{ℕ, zero, suc, ◌<◌}
 use native.Mathlib.Omega.{arith}
-use borrow.Author.Rules.{rules}
 use Rattle.format.specs.Whole.{layout}
 use Rattle.entries.specs.Entries.{IsList}
 use Rattle.entries.specs.declared.Walked.TheVariants.{Entries, Refused}

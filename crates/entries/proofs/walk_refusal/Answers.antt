@@ -1,6 +1,5 @@
 -- `walk_refusal` meets its contract, by the case of the answer.
 -- Assumes nothing.
-use borrow.Author.Rules.{rules}
 use Rattle.entries.specs.Entries.{walk_refusal}
 use Rattle.entries.proofs.walk_refusal.Goals as goal
 

@@ -1,12 +1,6 @@
 -- `entry_id` meets its contract: the width of an id by the table.
 -- Assumes nothing.
-use mathlib.Core.Path.{◌≡◌, refl}
-use Prim.Native.Nat.{ℕ, zero, suc}
-use Rattle.format.specs.Whole.{layout}
 use Rattle.bits.proofs.Answers.{value_fits}
-use Rattle.entries.specs.Entries.{IsList}
-use Rattle.entry_ids.specs.Steps.{id_bits}
-use borrow.Author.Rules.{rules}
 use Rattle.entry_ids.proofs.entry_id.Goals as goal
 
 pub overflow_cast-result : goal.overflow_cast-result

@@ -3,7 +3,6 @@
 use mathlib.Core.Path.{sym, ◌∙◌}
 use lib.ListN.{length}
 use Rattle.entry_ids.proofs.Bodies.{fit_answer, left_no, given_held, given_left}
-use borrow.Author.Rules.{rules}
 use Rattle.entry_ids.proofs.entry_ids.Goals as goal
 
 pub returns-in_default : goal.returns-in_default

@@ -1,7 +1,6 @@
 -- `entry_ids_answer` meets its contract: what was gathered, for a buffer of this length.
 -- Assumes nothing.
 use Rattle.entry_ids.proofs.Bodies.{fit_answer}
-use borrow.Author.Rules.{rules}
 use Rattle.entry_ids.proofs.entry_ids_answer.Goals as goal
 
 pub returns : goal.returns

@@ -1,7 +1,6 @@
 -- `fit` meets its contract: a refusal stays, and the length is held to the buffer by `fitted`.
 -- Assumes nothing.
 use Rattle.entry_ids.proofs.Bodies.{refit_no, refit_yes}
-use borrow.Author.Rules.{rules}
 use Rattle.entry_ids.proofs.fit.Goals as goal
 
 pub returns-in_default : goal.returns-in_default

@@ -1,12 +1,10 @@
 -- `gather_ids` meets its contract, by the body's layout.
 -- Assumes nothing.
 use mathlib.Core.Path.{sym, ◌∙◌}
-use native.Mathlib.Omega.{arith}
 use Rattle.entries.specs.declared.Walked.TheVariants.{Entries, Refused}
 use Rattle.entries.proofs.Ends.{is_list}
 use Rattle.entries.proofs.Bodies.{headed, seek_over, seek_unheaded}
 use Rattle.entry_ids.proofs.Bodies.{gathered_no, gathered_list}
-use borrow.Author.Rules.{rules}
 use Rattle.entry_ids.proofs.gather_ids.Goals as goal
 
 pub returns-then-s-gt4096 : goal.returns-then-s-gt4096

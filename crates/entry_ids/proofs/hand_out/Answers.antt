@@ -1,12 +1,8 @@
 -- `hand_out` meets its contract. The loop's invariant: the first ids are copied.
 -- Assumes nothing.
-use mathlib.Core.Path.{◌≡◌, refl, ap, ◌∙◌}
-use Prim.Native.Nat.{ℕ, ◌-◌, ◌≤◌}
-use mathlib.Core.List.{List}
+use mathlib.Core.Path.{◌≡◌, ◌∙◌}
 use native.Mathlib.Omega.{arith}
-use lib.ListN.{length, set, get_or, length-set}
-use lib.Seq.{paste}
-use Rattle.entry_ids.proofs.Lists.{paste_step, paste_splice}
+use Rattle.entry_ids.proofs.Lists.{paste_splice}
 use Rattle.entry_ids.proofs.hand_out.Goals as goal
 
 pub returns : goal.returns

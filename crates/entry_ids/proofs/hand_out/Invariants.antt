@@ -1,12 +1,9 @@
 -- `hand_out` meets its contract. The loop's invariant: the first ids are copied.
 -- Assumes nothing.
-use mathlib.Core.Path.{◌≡◌, refl, ap, ◌∙◌}
-use Prim.Native.Nat.{ℕ, ◌-◌, ◌≤◌}
-use mathlib.Core.List.{List}
-use native.Mathlib.Omega.{arith}
-use lib.ListN.{length, set, get_or, length-set}
+use mathlib.Core.Path.{◌≡◌}
+use Prim.Native.Nat.{◌-◌, ◌≤◌}
+use lib.ListN.{length}
 use lib.Seq.{paste}
-use Rattle.entry_ids.proofs.Lists.{paste_step, paste_splice}
 use Rattle.entry_ids.proofs.hand_out.Given as goal
 
 abbrev pub invariant-loop-i : goal.invariant-loop-i

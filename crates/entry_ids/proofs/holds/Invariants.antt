@@ -1,13 +1,10 @@
 -- `holds` meets its contract. The loop's invariant: the id is not among those passed.
 -- Assumes nothing.
-use mathlib.Core.Path.{◌≡◌, refl, sym, ◌∙◌}
+use mathlib.Core.Path.{◌≡◌}
 use mathlib.Core.Bool.{false}
 use Prim.Native.Nat.{◌-◌, ◌≤◌}
-use native.Mathlib.Omega.{arith}
 use lib.ListN.{take}
-use lib.Seq.{get_or-take, length-take-le}
 use Rattle.entry_ids.specs.Steps.{is_in}
-use Rattle.entry_ids.proofs.Lists.{is_in_more, is_in_met}
 use Rattle.entry_ids.proofs.holds.Given as goal
 
 abbrev pub invariant-loop-i : goal.invariant-loop-i

@@ -2,7 +2,6 @@
 -- Assumes nothing.
 use mathlib.Core.Path.{sym, ◌∙◌}
 use Rattle.entry_ids.proofs.Lists.{joined_old, joined_new}
-use borrow.Author.Rules.{rules}
 use Rattle.entry_ids.proofs.join.Goals as goal
 
 pub returns-then-holds : goal.returns-then-holds

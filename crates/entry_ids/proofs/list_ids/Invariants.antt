@@ -1,12 +1,9 @@
 -- `list_ids` meets its contract. The loop's invariant: of the ids passed each is gathered where it first stands.
 -- Assumes nothing.
-use mathlib.Core.Path.{◌≡◌, refl, sym, ◌∙◌}
+use mathlib.Core.Path.{◌≡◌}
 use Prim.Native.Nat.{◌-◌, ◌*◌}
-use native.Mathlib.Omega.{arith}
-use borrow.Author.Rules.{rules}
 use lib.ListN.{length}
-use Rattle.entries.proofs.Ends.{told}
-use Rattle.entry_ids.proofs.Walks.{Kept, kept_first, kept_room, kept_word, kept_next, kept_less, kept_over, kept_stop}
+use Rattle.entry_ids.proofs.Walks.{Kept}
 use Rattle.entry_ids.proofs.list_ids.Given as goal
 
 abbrev pub invariant-loop-at : goal.invariant-loop-at

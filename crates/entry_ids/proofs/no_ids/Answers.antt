@@ -3,7 +3,6 @@
 use mathlib.Core.Path.{sym, ◌∙◌}
 use Rattle.entries.proofs.Ends.{walk_told}
 use Rattle.entry_ids.proofs.Bodies.{gathered_no, gathered_none}
-use borrow.Author.Rules.{rules}
 use Rattle.entry_ids.proofs.no_ids.Goals as goal
 
 pub returns-in_default : goal.returns-in_default

@@ -1,10 +1,6 @@
 -- `acceleration_at` meets its contract: three values, if the entry has them.
 -- Assumes nothing.
-use native.Mathlib.Omega.{arith}
-use borrow.Author.Rules.{rules}
-use Rattle.bits.specs.Read.{Room}
 use Rattle.bits.proofs.Answers.{value_fits}
-use Rattle.ephemeris.specs.declared.MaybeEphemerisAccel.TheVariants.{Some}
 use Rattle.ephemeris.proofs.acceleration_at.Goals as goal
 
 pub overflow_cast-result : goal.overflow_cast-result

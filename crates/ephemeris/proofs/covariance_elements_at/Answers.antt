@@ -1,12 +1,8 @@
 -- `covariance_elements_at` meets its contract. The loop's invariant: the first i values are in, the others 0.
 -- Assumes nothing.
-use Prim.Native.Nat.{◌-◌, ◌≤◌}
-use mathlib.Core.Path.{◌≡◌, refl, ◌∙◌}
-use mathlib.Core.List.{◌++◌, append-nil}
+use mathlib.Core.Path.{refl}
 use native.Mathlib.Omega.{arith}
-use lib.ListN.{replicate}
 use Rattle.bits.proofs.Answers.{value_below}
-use Rattle.bits.proofs.Places.{within_fits}
 use Rattle.ephemeris.specs.Ephemeris.{words_at}
 use Rattle.ephemeris.proofs.Words.{put_word}
 use Rattle.ephemeris.proofs.covariance_elements_at.Goals as goal

@@ -1,6 +1,5 @@
 -- `covariance_refusal` meets its contract, by the case of the answer.
 -- Assumes nothing.
-use borrow.Author.Rules.{rules}
 use Rattle.ephemeris.specs.Ephemeris.{covariance_refusal}
 use Rattle.ephemeris.proofs.covariance_refusal.Goals as goal
 

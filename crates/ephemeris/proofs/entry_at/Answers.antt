@@ -1,13 +1,6 @@
 -- `entry_at` meets its contract: a stamp, six values, and the acceleration.
 -- Assumes nothing.
-use Prim.Native.Nat.{ℕ, ◌+◌, ◌≤◌}
-use mathlib.Core.Path.{ap}
-use native.Mathlib.Omega.{arith}
-use Rattle.bits.specs.Read.{Room}
 use Rattle.bits.proofs.Answers.{value_fits}
-use Rattle.ephemeris.specs.Entry.{entry_width}
-use Rattle.ephemeris.proofs.Indexed.{width_least}
-use borrow.Author.Rules.{rules}
 use Rattle.ephemeris.proofs.entry_at.Goals as goal
 
 pub overflow_cast-result : goal.overflow_cast-result

@@ -1,11 +1,8 @@
 -- `ephemeris_data_at` meets its contract, test by test.
 -- Assumes nothing.
-use Prim.Native.Nat.{◌*◌, ◌≤◌}
 use mathlib.Core.Path.{refl}
 use native.Mathlib.Omega.{arith}
-use borrow.Author.Rules.{rules}
-use Rattle.bits.proofs.Places.{within_fits}
-use Rattle.ephemeris.proofs.Indexed.{width_bytes, bytes_few, bytes_before, past_count, too_long, outside, inside}
+use Rattle.ephemeris.proofs.Indexed.{bytes_few, bytes_before, past_count, too_long, outside, inside}
 use Rattle.ephemeris.proofs.ephemeris_data_at.Goals as goal
 
 pub returns-then-part-index : goal.returns-then-part-index

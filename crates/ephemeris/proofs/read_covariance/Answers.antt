@@ -3,7 +3,6 @@
 use Prim.Native.Nat.{◌+◌}
 use mathlib.Core.Path.{sym, ap, ◌∙◌}
 use native.Mathlib.Omega.{arith}
-use borrow.Author.Rules.{rules}
 use Rattle.passing.proofs.Passing.{told_answer, stopped_answer}
 use Rattle.ephemeris.specs.Ephemeris.{covariance_at}
 use Rattle.ephemeris.specs.declared.CovarianceData.{CovarianceData}

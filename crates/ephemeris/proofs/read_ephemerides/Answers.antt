@@ -2,14 +2,12 @@
 -- Assumes nothing.
 use mathlib.Core.Path.{sym, ap, ◌∙◌}
 use native.Mathlib.Omega.{arith}
-use borrow.Author.Rules.{rules}
 use Rattle.bits.specs.Read.{refusal_of}
 use Rattle.bits.proofs.Answers.{Got, got_all, cut_all, got_lt}
-use Rattle.bits.proofs.Places.{within_fits}
 use Rattle.passing.proofs.Passing.{stopped_answer}
 use Rattle.parts.specs.declared.PartAnswer.TheVariants.{Read, Refused}
 use Rattle.ephemeris.specs.Ephemeris.{ephemerides_at}
-use Rattle.ephemeris.proofs.Entries.{count_short, listed_answer, short_answer, bits_some, entries_small}
+use Rattle.ephemeris.proofs.Entries.{count_short, listed_answer, short_answer, entries_small}
 use Rattle.ephemeris.proofs.read_ephemerides.Goals as goal
 use Rattle.ephemeris.proofs.read_ephemerides.Goals.{In-Value}
 

@@ -1,6 +1,5 @@
 -- `around_lists` meets its contract, by the case of the lists.
 -- Assumes nothing.
-use borrow.Author.Rules.{rules}
 use Rattle.fragment.proofs.Steps.{around_got, around_cut}
 use Rattle.fragment.proofs.around_lists.Goals as goal
 

@@ -2,7 +2,6 @@
 -- Assumes nothing.
 use mathlib.Core.Path.{◌∙◌, ap}
 use native.Mathlib.Omega.{arith}
-use borrow.Author.Rules.{rules}
 use Rattle.format.specs.Digits.{twos}
 use Rattle.bits.proofs.Answers.{value_fits, value_below}
 use Rattle.bits.proofs.Signs.{narrow_fits, narrow_held}

@@ -1,6 +1,5 @@
 -- `fragment_refusal` meets its contract, by the case of the answer.
 -- Assumes nothing.
-use borrow.Author.Rules.{rules}
 use Rattle.fragment.specs.Fragment.{fragment_refusal}
 use Rattle.fragment.proofs.fragment_refusal.Goals as goal
 

@@ -1,6 +1,5 @@
 -- `lists_refusal` meets its contract, by the case of the answer.
 -- Assumes nothing.
-use borrow.Author.Rules.{rules}
 use Rattle.fragment.specs.Inner.{lists_refusal}
 use Rattle.fragment.proofs.lists_refusal.Goals as goal
 

@@ -1,7 +1,6 @@
 -- `read_fragment` meets its contract: id and flags one after the other, and then the kind of fragment that the first flag names.
 -- Assumes nothing.
 use native.Mathlib.Omega.{arith}
-use borrow.Author.Rules.{rules}
 use Rattle.format.specs.Tables.{fragment}
 use Rattle.bits.proofs.Answers.{next_place, got_fits}
 use Rattle.bits.proofs.Reading.{reading}

@@ -4,7 +4,6 @@ use native.Mathlib.Omega.{arith}
 use Rattle.format.specs.Tables.{delivery}
 use Rattle.bits.proofs.Answers.{got_fits}
 use Rattle.fragment.proofs.Stages.{Come, start, One, one, Two, two, Three, three, Four, four, ids_cut, systems_cut, field_cut, all_read}
-use borrow.Author.Rules.{rules}
 use Rattle.fragment.proofs.read_lists.Goals as goal
 use Rattle.fragment.proofs.read_lists.Goals.{In-Read, In-Read-r, In-Value, In-Value-v, Start}
 

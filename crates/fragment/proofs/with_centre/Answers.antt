@@ -1,6 +1,5 @@
 -- `with_centre` meets its contract: the centre is tested as a whole, and the lists stand behind its 76 bits.
 -- Assumes nothing.
-use borrow.Author.Rules.{rules}
 use Rattle.bits.proofs.Reading.{reading}
 use Rattle.fragment.specs.Inner.{with_at}
 use Rattle.fragment.proofs.Steps.{with_lists}

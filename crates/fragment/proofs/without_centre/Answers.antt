@@ -1,6 +1,5 @@
 -- `without_centre` meets its contract: the lists stand behind four reserved bits.
 -- Assumes nothing.
-use borrow.Author.Rules.{rules}
 use Rattle.format.specs.ByName.{first_by}
 use Rattle.format.specs.Syntax.{unsigned}
 use Rattle.bits.proofs.Answers.{next_place, got_fits, got_all}

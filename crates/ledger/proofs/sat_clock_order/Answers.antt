@@ -1,7 +1,6 @@
 -- `sat_clock_order`: the number of each answer.
 -- Assumes nothing.
 use mathlib.Core.Path.{sym, ap, ◌∙◌}
-use borrow.Author.Rules.{rules}
 use Rattle.clock_order.specs.Order.{order_number}
 use Rattle.ledger.proofs.sat_clock_order.Goals as goal
 

@@ -2,13 +2,10 @@
 -- Assumes nothing.
 use mathlib.Core.Path.{sym, ap, ◌∙◌}
 use native.Mathlib.Omega.{arith}
-use borrow.Author.Tests.{not-true, not-false}
-use borrow.Author.Rules.{rules}
 use Rattle.ledger_reader.specs.declared.Measure.TheVariants.{Refused}
 use Rattle.ledger_reader.proofs.Entries.{held, unheld}
 use Rattle.format.proofs.DigitLaws.{below_of}
 use Rattle.ledger_reader.proofs.Measuring.{Headed, framed, measure_short, measure_wrong, measure_version, measure_unread, measure_big, measure_size}
-use mathlib.Core.Bool.{not}
 use Rattle.ledger_reader.proofs.ledger_measure.Goals as goal
 
 pub returns-then-ledger-lt4 : goal.returns-then-ledger-lt4

@@ -1,6 +1,5 @@
 -- `measure_refusal` meets its contract, by the case of the measure.
 -- Assumes nothing.
-use borrow.Author.Rules.{rules}
 use Rattle.ledger_reader.specs.Measured.{measure_refusal}
 use Rattle.ledger_reader.proofs.measure_refusal.Goals as goal
 

@@ -1,6 +1,5 @@
 -- `read_content` goes through a table and finds nothing over.
 -- Assumes nothing.
-use borrow.Author.Rules.{rules}
 use mathlib.Core.Path.{ap}
 use Rattle.format.specs.Whole.{layout, edition_for}
 use Rattle.read_runs.specs.declared.Step.TheVariants.{Refused}

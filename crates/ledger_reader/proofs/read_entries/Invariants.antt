@@ -2,13 +2,9 @@
 -- those before i are laid.
 -- Assumes nothing.
 use Prim.Native.Nat.{◌-◌, ◌≤◌}
-use native.Mathlib.Omega.{arith}
-use borrow.Author.Rules.{rules}
 use Rattle.format.specs.Whole.{edition_for}
 use Rattle.ledger_reader.specs.Held.{entry_of}
-use Rattle.format.proofs.DigitLaws.{below_of}
-use Rattle.ledger_reader.proofs.Fields.{fine_entry}
-use Rattle.ledger_reader.proofs.Entries.{took, untaken, holds_no, took_whole, lent_took, Counting, begin, turn, stop, ended}
+use Rattle.ledger_reader.proofs.Entries.{Counting}
 use Rattle.ledger_reader.proofs.read_entries.Given as goal
 
 abbrev pub invariant-loop-i : goal.invariant-loop-i

@@ -1,8 +1,7 @@
 -- `read_entry` goes through an entry by its table id.
 -- Assumes nothing.
 use native.Mathlib.Omega.{arith}
-use borrow.Author.Rules.{rules}
-use mathlib.Core.Path.{◌≡◌, refl}
+use mathlib.Core.Path.{◌≡◌}
 use Rattle.read_plans.proofs.TakenLaws.{as_taken}
 use Rattle.ledger_reader.proofs.read_entry.Goals as goal
 

@@ -2,7 +2,6 @@
 -- Assumes nothing.
 use mathlib.Core.Path.{◌≡◌, refl}
 use native.Mathlib.Omega.{arith}
-use borrow.Author.Rules.{rules}
 use Rattle.format.specs.Tables.{position3}
 use Rattle.read_runs.specs.Came.{some_way}
 use Rattle.format.proofs.FineTables.{fine_header}

@@ -2,8 +2,6 @@
 -- Assumes nothing.
 use mathlib.Core.Path.{refl}
 use mathlib.Core.List.{[]}
-use native.Mathlib.Omega.{arith}
-use borrow.Author.Rules.{rules}
 use Rattle.ledger_writer.proofs.WrittenLaws.{content_done, as_is, size_over, size_no, size_yes}
 use Rattle.ledger_writer.proofs.size_in.Goals as goal
 

@@ -1,6 +1,5 @@
 -- `size_refusal` meets its contract, by the case of the answer.
 -- Assumes nothing.
-use borrow.Author.Rules.{rules}
 use Rattle.ledger_writer.specs.Written.{size_refusal}
 use Rattle.ledger_writer.proofs.size_refusal.Goals as goal
 

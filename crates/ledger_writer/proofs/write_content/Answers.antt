@@ -1,7 +1,6 @@
 -- `write_content`: the content by the layout of the table id.
 -- Assumes nothing.
 use native.Mathlib.Omega.{arith}
-use borrow.Author.Rules.{rules}
 use Rattle.format.specs.Whole.{edition_for}
 use Rattle.write_runs.specs.Went.{outside}
 use Rattle.write_runs.proofs.WentLaws.{stay, done}

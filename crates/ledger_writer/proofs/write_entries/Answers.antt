@@ -1,13 +1,9 @@
 -- `write_entries`: an entry more a turn, and the count at the end.
 -- Assumes nothing.
-use Prim.Native.Nat.{◌-◌, ◌*◌}
 use native.Mathlib.Omega.{arith}
-use borrow.Author.Rules.{rules}
-use lib.ListN.{length}
-use Rattle.format.specs.Whole.{edition_for}
 use Rattle.write_runs.proofs.Lent.{lent}
 use Rattle.write_runs.proofs.WentLaws.{done, stopped}
-use Rattle.ledger_writer.proofs.Listing.{Listing, begin, turn, stop, listed_no, ended}
+use Rattle.ledger_writer.proofs.Listing.{begin, turn, stop, listed_no, ended}
 use Rattle.ledger_writer.proofs.write_entries.Goals as goal
 
 pub loop-at-init : goal.loop-at-init

@@ -1,6 +1,5 @@
 -- `write_entry`: the entry writer of each table id.
 -- Assumes nothing.
-use borrow.Author.Rules.{rules}
 use borrow.Author.Tests.{eq-eqb, ne_eqb}
 use Rattle.format.specs.Whole.{edition_for}
 use Rattle.write_runs.specs.Went.{outside}

@@ -1,14 +1,6 @@
 -- `metadata_at` meets its contract: two stamps and four values at their places.
 -- Assumes nothing.
-use Prim.Native.Nat.{ℕ, ◌+◌}
-use mathlib.Core.Path.{◌≡◌, ap, ◌∙◌}
-use native.Mathlib.Omega.{arith}
-use lib.Dec.{eqb}
-use Rattle.format.specs.Digits.{value_at}
 use Rattle.bits.proofs.Answers.{value_fits}
-use Rattle.clocks.specs.declared.Stamp.{Stamp}
-use Rattle.metadata.specs.Metadata.{interpolation}
-use borrow.Author.Rules.{rules}
 use Rattle.metadata.proofs.metadata_at.Goals as goal
 
 pub overflow_cast-value_at : goal.overflow_cast-value_at

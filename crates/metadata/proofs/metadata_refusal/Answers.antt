@@ -1,6 +1,5 @@
 -- `metadata_refusal` meets its contract, by the case of the answer.
 -- Assumes nothing.
-use borrow.Author.Rules.{rules}
 use Rattle.metadata.specs.Metadata.{metadata_refusal}
 use Rattle.metadata.proofs.metadata_refusal.Goals as goal
 

@@ -1,6 +1,5 @@
 -- `usable_refusal` meets its contract, by the case of the answer.
 -- Assumes nothing.
-use borrow.Author.Rules.{rules}
 use Rattle.metadata.specs.Metadata.{usable_refusal}
 use Rattle.metadata.proofs.usable_refusal.Goals as goal
 

@@ -1,6 +1,5 @@
 -- `part_refusal` meets its contract, by the case of the answer.
 -- Assumes nothing.
-use borrow.Author.Rules.{rules}
 use Rattle.parts.specs.Parts.{part_refusal}
 use Rattle.parts.proofs.part_refusal.Goals as goal
 

@@ -4,10 +4,8 @@ use native.Mathlib.Omega.{arith}
 use native.Mathlib.Nat.{mul-le-mul_left}
 use Rattle.format.specs.ByName.{first_by}
 use Rattle.bits.proofs.Answers.{next_place, got_lt}
-use Rattle.bits.proofs.Places.{within_fits}
 use Rattle.bits.proofs.Reading.{reading}
 use Rattle.parts.specs.Parts.{part_at}
-use borrow.Author.Rules.{rules}
 use Rattle.parts.proofs.read_part.Goals as goal
 
 pub returns-in_default : goal.returns-in_default

@@ -1,13 +1,10 @@
 -- `slots_on` meets its contract: each turn of its loop counts one more byte, and the last step the bits left over.
 -- Assumes nothing.
-use Prim.Native.Nat.{◌+◌, ◌-◌, ◌*◌, ◌/◌, ◌%◌, ◌≤◌}
-use mathlib.Core.Path.{◌≡◌, refl}
-use native.Mathlib.Nat.{div-one}
-use native.Mathlib.Omega.{arith}
-use lib.ListN.{take, drop, get_or}
+use Prim.Native.Nat.{◌-◌, ◌*◌, ◌≤◌}
+use mathlib.Core.Path.{◌≡◌}
+use lib.ListN.{take, drop}
 use Rattle.format.specs.Digits.{bits_of}
 use Rattle.format.specs.ByName.{ones}
-use Rattle.parts.proofs.Ones.{sum_fits, turn}
 use Rattle.parts.proofs.slots_on.Given as goal
 
 abbrev pub invariant-loop-i : goal.invariant-loop-i

@@ -1,6 +1,5 @@
 -- `answer_refusal` meets its contract, by the case of the answer.
 -- Assumes nothing.
-use borrow.Author.Rules.{rules}
 use Rattle.plain_body.specs.Bodies.{answer_refusal}
 use Rattle.plain_body.proofs.answer_refusal.Goals as goal
 

@@ -1,6 +1,5 @@
 -- `closed` meets its contract, by its tests.
 -- Assumes nothing.
-use borrow.Author.Rules.{rules}
 use borrow.Author.Tests.{le-leb, lt-leb}
 use Rattle.plan.specs.Plan.{plan_closed}
 use Rattle.plan.proofs.closed.Goals as goal

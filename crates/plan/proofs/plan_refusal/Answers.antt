@@ -1,6 +1,5 @@
 -- `plan_refusal` meets its contract, by the case of the answer.
 -- Assumes nothing.
-use borrow.Author.Rules.{rules}
 use Rattle.plan.specs.Plan.{plan_refusal}
 use Rattle.plan.proofs.plan_refusal.Goals as goal
 

@@ -2,7 +2,6 @@
 -- Assumes nothing.
 use mathlib.Core.Path.{refl}
 use native.Mathlib.Omega.{arith}
-use borrow.Author.Rules.{rules}
 use Rattle.format.specs.Syntax.{unsigned}
 use Rattle.bits.proofs.Answers.{next_place, got_fits}
 use Rattle.bits.proofs.Reading.{reading, got}

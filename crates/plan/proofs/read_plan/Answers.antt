@@ -3,10 +3,9 @@
 use Prim.Native.Nat.{◌+◌, ◌*◌}
 use mathlib.Core.Path.{refl}
 use native.Mathlib.Omega.{arith}
-use borrow.Author.Rules.{rules}
 use Rattle.format.specs.Tables.{beamhopping}
 use Rattle.bits.proofs.Answers.{next_place, got_fits}
-use Rattle.bits.proofs.Places.{within_fits, end_fits}
+use Rattle.bits.proofs.Places.{end_fits}
 use Rattle.bits.proofs.Reading.{reading}
 use Rattle.plan.specs.Plan.{plan_at}
 use Rattle.plan.proofs.Fields.{Head, head_of, cut_fields, got_fields}

@@ -1,9 +1,7 @@
 -- `bitmap_at` meets its contract: the header's fields, and the slots or their refusal.
 -- Assumes nothing.
 use native.Mathlib.Omega.{arith}
-use borrow.Author.Rules.{rules}
-use Rattle.bits.proofs.Answers.{value_below, value_fits}
-use Rattle.bits.proofs.Places.{within_fits}
+use Rattle.bits.proofs.Answers.{value_fits}
 use Rattle.plan_modes.proofs.Bitmap.{bitmap_no, bitmap_there}
 use Rattle.plan_modes.proofs.bitmap_at.Goals as goal
 

@@ -1,6 +1,5 @@
 -- `mode_refusal` meets its contract, by the case of the answer.
 -- Assumes nothing.
-use borrow.Author.Rules.{rules}
 use Rattle.plan_modes.specs.Modes.{mode_refusal}
 use Rattle.plan_modes.proofs.mode_refusal.Goals as goal
 

@@ -1,6 +1,5 @@
 -- `read_bitmap` meets its contract: the header's test.
 -- Assumes nothing.
-use borrow.Author.Rules.{rules}
 use Rattle.bits.proofs.Reading.{reading}
 use Rattle.plan_modes.specs.Modes.{bitmap_at}
 use Rattle.plan_modes.proofs.read_bitmap.Goals as goal

@@ -1,6 +1,5 @@
 -- `read_dwell` meets its contract: two clocks behind one test.
 -- Assumes nothing.
-use borrow.Author.Rules.{rules}
 use native.Mathlib.Omega.{arith}
 use Rattle.format.specs.ByName.{first_by}
 use Rattle.bits.proofs.Reading.{reading}

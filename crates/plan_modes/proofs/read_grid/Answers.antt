@@ -1,6 +1,5 @@
 -- `read_grid` meets its contract: the test.
 -- Assumes nothing.
-use borrow.Author.Rules.{rules}
 use Rattle.bits.proofs.Reading.{reading}
 use Rattle.plan_modes.specs.Modes.{grid_at}
 use Rattle.plan_modes.proofs.read_grid.Goals as goal

@@ -1,6 +1,5 @@
 -- `read_mode` meets its contract: the mode of each number.
 -- Assumes nothing.
-use borrow.Author.Rules.{rules}
 use Rattle.plan_modes.proofs.Choice.{mode_0, mode_1, mode_2, mode_3}
 use Rattle.plan_modes.proofs.read_mode.Goals as goal
 

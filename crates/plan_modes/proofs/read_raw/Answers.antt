@@ -1,7 +1,6 @@
 -- `read_raw` meets its contract: an end past the data, one that was passed, and one within.
 -- Assumes nothing.
 use native.Mathlib.Omega.{arith}
-use borrow.Author.Rules.{rules}
 use Rattle.plan_modes.proofs.Bitmap.{raw_past, raw_before, raw_there}
 use Rattle.plan_modes.proofs.read_raw.Goals as goal
 

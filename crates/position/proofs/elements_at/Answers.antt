@@ -2,7 +2,6 @@
 -- Assumes nothing.
 use Prim.Native.Nat.{◌+◌}
 use native.Mathlib.Omega.{arith}
-use borrow.Author.Rules.{rules}
 use Rattle.format.specs.ByName.{first_by}
 use Rattle.bits.proofs.Answers.{value_fits}
 use Rattle.position.specs.declared.PositionSystem.TheVariants.{Sgp4}

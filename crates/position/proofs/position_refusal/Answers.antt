@@ -1,6 +1,5 @@
 -- `position_refusal` meets its contract, by the case of the answer.
 -- Assumes nothing.
-use borrow.Author.Rules.{rules}
 use Rattle.position.specs.Satellite.{position_refusal}
 use Rattle.position.proofs.position_refusal.Goals as goal
 

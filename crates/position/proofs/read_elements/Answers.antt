@@ -1,6 +1,5 @@
 -- `read_elements` meets its contract, by the test that it makes.
 -- Assumes nothing.
-use borrow.Author.Rules.{rules}
 use Rattle.bits.proofs.Reading.{reading}
 use Rattle.position.specs.Satellite.{elements_at}
 use Rattle.position.proofs.read_elements.Goals as goal

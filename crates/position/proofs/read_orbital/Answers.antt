@@ -3,7 +3,6 @@
 use Prim.Native.Nat.{◌+◌}
 use native.Mathlib.Omega.{arith}
 use lib.Dec.{eqb}
-use borrow.Author.Rules.{rules}
 use Rattle.format.specs.ByName.{first_by}
 use Rattle.bits.proofs.Answers.{value_fits}
 use Rattle.bits.proofs.Reading.{reading}

@@ -1,7 +1,5 @@
 -- `read_satellite` meets its contract, field by field.
 -- Assumes nothing.
-use native.Mathlib.Omega.{arith}
-use borrow.Author.Rules.{rules}
 use Rattle.format.specs.Tables.{position}
 use Rattle.bits.proofs.Answers.{next_place, got_fits}
 use Rattle.bits.proofs.Reading.{reading}

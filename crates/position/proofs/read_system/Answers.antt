@@ -1,6 +1,5 @@
 -- `read_system` meets its contract, by the kind that position_system chooses.
 -- Assumes nothing.
-use borrow.Author.Rules.{rules}
 use Rattle.position.proofs.Systems.{is_orbital, is_elements}
 use Rattle.position.proofs.read_system.Goals as goal
 

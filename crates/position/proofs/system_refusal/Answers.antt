@@ -1,6 +1,5 @@
 -- `system_refusal` meets its contract, by the case of the answer.
 -- Assumes nothing.
-use borrow.Author.Rules.{rules}
 use Rattle.position.specs.Satellite.{system_refusal}
 use Rattle.position.proofs.system_refusal.Goals as goal
 

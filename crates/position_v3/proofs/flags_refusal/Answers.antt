@@ -1,6 +1,5 @@
 -- `flags_refusal` meets its contract, by the case of the answer.
 -- Assumes nothing.
-use borrow.Author.Rules.{rules}
 use Rattle.position_v3.specs.PositionV3.{flags_refusal}
 use Rattle.position_v3.proofs.flags_refusal.Goals as goal
 

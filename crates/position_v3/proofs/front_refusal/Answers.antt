@@ -1,6 +1,5 @@
 -- `front_refusal` meets its contract, by the case of the answer.
 -- Assumes nothing.
-use borrow.Author.Rules.{rules}
 use Rattle.position_v3.specs.PositionV3.{front_refusal}
 use Rattle.position_v3.proofs.front_refusal.Goals as goal
 

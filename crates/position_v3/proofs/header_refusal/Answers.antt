@@ -1,6 +1,5 @@
 -- `header_refusal` meets its contract, by the case of the answer.
 -- Assumes nothing.
-use borrow.Author.Rules.{rules}
 use Rattle.position_v3.specs.PositionV3.{header_refusal}
 use Rattle.position_v3.proofs.header_refusal.Goals as goal
 

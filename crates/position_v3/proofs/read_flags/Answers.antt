@@ -1,7 +1,6 @@
 -- `read_flags` meets its contract, flag by flag.
 -- Assumes nothing.
 use native.Mathlib.Omega.{arith}
-use borrow.Author.Rules.{rules}
 use Rattle.format.specs.ByName.{first_by}
 use Rattle.bits.proofs.Answers.{next_place, got_fits}
 use Rattle.bits.proofs.Reading.{reading}

@@ -2,7 +2,6 @@
 -- `read_flags` answers.
 -- Assumes nothing.
 use native.Mathlib.Omega.{arith}
-use borrow.Author.Rules.{rules}
 use Rattle.bits.proofs.Answers.{next_place, got_fits}
 use Rattle.bits.proofs.Reading.{reading}
 use Rattle.position_v3.specs.PositionV3.{front_at}

@@ -2,7 +2,6 @@
 -- Assumes nothing.
 use mathlib.Core.Path.{sym, ◌∙◌}
 use native.Mathlib.Omega.{arith}
-use borrow.Author.Rules.{rules}
 use Rattle.bits.proofs.Answers.{value_fits}
 use Rattle.position_v3.specs.declared.HeaderAnswer.TheVariants.{Header}
 use Rattle.position_v3.proofs.Headers.{header_there, header_empty, header_short}

@@ -1,6 +1,5 @@
 -- `read_satellite_v3` meets its contract: part after part, each by what its own reader answers.
 -- Assumes nothing.
-use borrow.Author.Rules.{rules}
 use mathlib.Core.Path.{◌∙◌}
 use Rattle.ephemeris.proofs.Entries.{Listed}
 use Rattle.position_v3.specs.PositionV3.{front_of}

@@ -1,6 +1,5 @@
 -- `satellite_v3_refusal` meets its contract, by the case of the answer.
 -- Assumes nothing.
-use borrow.Author.Rules.{rules}
 use Rattle.position_v3.specs.PositionV3.{satellite_v3_refusal}
 use Rattle.position_v3.proofs.satellite_v3_refusal.Goals as goal
 

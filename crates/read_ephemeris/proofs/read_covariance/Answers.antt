@@ -1,6 +1,5 @@
 -- `read_covariance`: a stamp and 21 values, or nothing.
 -- Assumes nothing.
-use borrow.Author.Rules.{rules}
 use borrow.Author.Tests.{eq-eqb, ne_eqb}
 use Rattle.format.specs.Syntax.{end}
 use Rattle.runs.specs.Lines.{run, sign_of, width_of}

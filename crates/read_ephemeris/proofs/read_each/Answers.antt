@@ -1,8 +1,6 @@
 -- `read_each` goes through an entry a turn, and lends it the buffer from where the last one ended.
 -- Assumes nothing.
-use Prim.Native.Nat.{◌-◌, ◌≤◌}
 use native.Mathlib.Omega.{arith}
-use borrow.Author.Rules.{rules}
 use Rattle.format.specs.Syntax.{Syntax, end}
 use Rattle.format.specs.Tables.{ephemeris}
 use Rattle.read_runs.specs.Came.{Way, some_way, Came}
@@ -10,7 +8,7 @@ use Rattle.read_runs.proofs.CameLaws.{done}
 use Rattle.read_runs.proofs.Lent.{lent}
 use Rattle.format.proofs.DigitLaws.{below_of}
 use Rattle.read_runs.proofs.Moved.{came_whole}
-use Rattle.read_ephemeris.proofs.Each.{fine_ephemeris, Each, begin, turn, stop, ended}
+use Rattle.read_ephemeris.proofs.Each.{fine_ephemeris, begin, turn, stop, ended}
 use Rattle.read_ephemeris.proofs.read_each.Goals as goal
 
 pub loop-i-init : goal.loop-i-init

@@ -1,16 +1,8 @@
 -- `read_each` goes through an entry a turn, and lends it the buffer from where the last one ended.
 -- Assumes nothing.
 use Prim.Native.Nat.{◌-◌, ◌≤◌}
-use native.Mathlib.Omega.{arith}
-use borrow.Author.Rules.{rules}
-use Rattle.format.specs.Syntax.{Syntax, end}
 use Rattle.format.specs.Tables.{ephemeris}
-use Rattle.read_runs.specs.Came.{Way, some_way, Came}
-use Rattle.read_runs.proofs.CameLaws.{done}
-use Rattle.read_runs.proofs.Lent.{lent}
-use Rattle.format.proofs.DigitLaws.{below_of}
-use Rattle.read_runs.proofs.Moved.{came_whole}
-use Rattle.read_ephemeris.proofs.Each.{fine_ephemeris, Each, begin, turn, stop, ended}
+use Rattle.read_ephemeris.proofs.Each.{Each}
 use Rattle.read_ephemeris.proofs.read_each.Given as goal
 
 abbrev pub invariant-loop-i : goal.invariant-loop-i

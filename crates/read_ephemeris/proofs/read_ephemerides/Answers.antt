@@ -2,7 +2,6 @@
 -- Assumes nothing.
 use mathlib.Core.List.{[], ◌∷◌}
 use native.Mathlib.Omega.{arith}
-use borrow.Author.Rules.{rules}
 use Rattle.format.specs.Tables.{times, ephemeris, covariance}
 use Rattle.runs.specs.Lines.{run, sign_of, width_of, size_of}
 use Rattle.read_runs.specs.Came.{some_way}

@@ -1,6 +1,5 @@
 -- `read_header`: one run.
 -- Assumes nothing.
-use borrow.Author.Rules.{rules}
 use Rattle.format.specs.Syntax.{end}
 use Rattle.format.specs.Tables.{header}
 use Rattle.runs.specs.Lines.{run, sign_of, width_of}

@@ -1,6 +1,5 @@
 -- `read_metadata`: a run and two usable times, whatever follows.
 -- Assumes nothing.
-use borrow.Author.Rules.{rules}
 use Rattle.format.specs.Syntax.{Syntax, end}
 use Rattle.format.specs.Tables.{usable}
 use Rattle.runs.specs.Lines.{run, sign_of, width_of}

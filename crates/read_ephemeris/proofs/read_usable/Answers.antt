@@ -1,6 +1,5 @@
 -- `read_usable`: a stamp or nothing, whatever follows.
 -- Assumes nothing.
-use borrow.Author.Rules.{rules}
 use borrow.Author.Tests.{eq-eqb, ne_eqb}
 use mathlib.Core.List.{[]}
 use Rattle.runs.specs.Lines.{run, sign_of, width_of}

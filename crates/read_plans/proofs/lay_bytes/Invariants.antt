@@ -1,10 +1,8 @@
 -- `lay_bytes`: at a byte place the bytes are copied; else a byte more a turn.
 -- Assumes nothing.
 use Prim.Native.Nat.{◌-◌}
-use native.Mathlib.Omega.{arith}
-use borrow.Author.Rules.{rules}
 use lib.ListN.{length}
-use Rattle.read_plans.proofs.Laying.{Laying, begin, more, no_room, laid, copied}
+use Rattle.read_plans.proofs.Laying.{Laying}
 use Rattle.read_plans.proofs.lay_bytes.Given as goal
 
 abbrev pub invariant-loop-i : goal.invariant-loop-i

@@ -1,6 +1,5 @@
 -- `leaves_by` is its definition, test by test.
 -- Assumes nothing.
-use borrow.Author.Rules.{rules}
 use borrow.Author.Tests.{eq-eqb, ne_eqb, lt-ltb, le-ltb, not-true, not-false}
 use Rattle.read_plans.specs.Taken.{leaves_by}
 use mathlib.Core.Path.{ap}

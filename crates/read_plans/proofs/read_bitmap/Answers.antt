@@ -1,7 +1,6 @@
 -- `read_bitmap` goes through the fields of a map of slots.
 -- Assumes nothing.
 use native.Mathlib.Omega.{arith}
-use borrow.Author.Rules.{rules}
 use Rattle.format.specs.Syntax.{end, slots}
 use Rattle.runs.specs.Lines.{sign_of, width_of, run}
 use Rattle.read_runs.proofs.CameLaws.{done, stops, starts, then, go_on, need_any}

@@ -7,11 +7,6 @@ use Rattle.format.proofs.DigitLaws.{below_of}
 use Rattle.read_runs.proofs.CameLaws.{done}
 use Rattle.read_runs.specs.Came.{way_of}
 use Rattle.read_plans.proofs.KeptLaws.{two_bytes, raw_there, filler_no, kept_no, kept_yes, stands_by}
-use borrow.Author.Rules.{rules}
-use Rattle.read_plans.proofs.read_filler.Reads as reads
-use Rattle.bits.proofs.get_be.Reads as get-be-reads
-use Rattle.read_plans.proofs.leaves_by.Reads as leaves-by-reads
-use Rattle.read_plans.proofs.read_raw.Reads as read-raw-reads
 use Rattle.read_plans.proofs.read_filler.Goals as goal
 
 pub returns-in_default : goal.returns-in_default

@@ -2,7 +2,6 @@
 -- Assumes nothing.
 use mathlib.Core.List.{[], ◌∷◌}
 use native.Mathlib.Omega.{arith}
-use borrow.Author.Rules.{rules}
 use Rattle.format.specs.Tables.{mode}
 use Rattle.runs.specs.Lines.{sign_of, width_of, size_of, run}
 use Rattle.read_runs.proofs.CameLaws.{done, stops, then, go_on}

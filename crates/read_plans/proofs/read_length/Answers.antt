@@ -1,14 +1,10 @@
 -- `read_length`: a run of one field in the second edition, and nothing in the first.
 -- Assumes nothing.
-use mathlib.Core.Path.{refl}
 use mathlib.Core.List.{[], ◌∷◌}
-use borrow.Author.Tests.{eq-eqb, ne_eqb}
+use borrow.Author.Tests.{eq-eqb}
 use Rattle.runs.specs.Lines.{sign_of, width_of, size_of, run}
 use Rattle.read_runs.proofs.Moved.{run_moved}
 use Rattle.read_plans.proofs.OpenLaws.{ahead_of}
-use borrow.Author.Rules.{rules}
-use Rattle.read_plans.proofs.read_length.Reads as reads
-use Rattle.read_runs.proofs.read_run.Reads as read-run-reads
 use Rattle.read_plans.proofs.read_length.Goals as goal
 
 pub returns-then-version-eq2 : goal.returns-then-version-eq2

@@ -1,6 +1,5 @@
 -- `read_mode` goes through the fields of the mode that the number stands for.
 -- Assumes nothing.
-use borrow.Author.Rules.{rules}
 use borrow.Author.Tests.{eq-eqb, ne_eqb}
 use Rattle.format.specs.Syntax.{end}
 use Rattle.runs.specs.Lines.{sign_of, width_of, run}

@@ -16,12 +16,6 @@ use Rattle.write_plans.proofs.Names.{plan_names}
 use Rattle.read_plans.proofs.TakenLaws.{taken_no, plan_took, spared_done}
 use Rattle.read_plans.proofs.OpenLaws.{as_first, as_second, length_no, inner_no, inner_placed, inner_first, inner_second, opened_first, ahead_done, laid_length}
 use borrow.Author.Rules.{rules}
-use Rattle.read_plans.proofs.read_plan.Reads as reads
-use Rattle.read_plans.proofs.read_filler.Reads as read-filler-reads
-use Rattle.read_plans.proofs.read_hopping.Reads as read-hopping-reads
-use Rattle.read_plans.proofs.read_length.Reads as read-length-reads
-use Rattle.read_runs.proofs.lay.Reads as lay-reads
-use Rattle.read_runs.proofs.read_run.Reads as read-run-reads
 use Rattle.read_plans.proofs.read_plan.Goals as goal
 
 pub returns-in_default : goal.returns-in_default

@@ -2,7 +2,6 @@
 -- Assumes nothing.
 use mathlib.Core.Path.{sym, ◌∙◌}
 use native.Mathlib.Omega.{arith}
-use borrow.Author.Rules.{rules}
 use Rattle.format.specs.Digits.{bits_of}
 use Rattle.format.proofs.DigitLaws.{length_digits, length_bits}
 use Rattle.runs.proofs.Stores.{stored_fits, stored_short}

@@ -1,14 +1,10 @@
 -- `read_counted`: the loop came along so many rounds of the run.
 -- Assumes nothing.
-use Prim.Native.Nat.{◌-◌, ◌≤◌}
-use mathlib.Core.List.{List, []}
+use mathlib.Core.List.{[]}
 use native.Mathlib.Omega.{arith}
-use borrow.Author.Rules.{rules}
-use Rattle.format.specs.Syntax.{Name}
-use Rattle.format.specs.Tables.{times}
-use Rattle.runs.specs.Lines.{run, run_of}
-use Rattle.write_runs.proofs.Runs.{rounds, rounds_next, rounds_end, rounds_all}
-use Rattle.read_runs.proofs.Runs.{Along, as_zero, begin, turn, stop, ended}
+use Rattle.runs.specs.Lines.{run}
+use Rattle.write_runs.proofs.Runs.{rounds_next, rounds_end, rounds_all}
+use Rattle.read_runs.proofs.Runs.{as_zero, begin, turn, stop, ended}
 use Rattle.read_runs.proofs.read_counted.Goals as goal
 
 pub loop-i-init : goal.loop-i-init

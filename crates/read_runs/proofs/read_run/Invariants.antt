@@ -1,18 +1,12 @@
 -- `read_run`: the loop came along the lines of the run, under any names.
 -- Assumes nothing.
 use Prim.Native.Nat.{◌-◌, ◌^◌, ◌≤◌, ◌<◌}
-use mathlib.Core.Path.{◌≡◌, refl}
-use mathlib.Core.List.{List, []}
-use native.Mathlib.Omega.{arith}
-use lib.ListN.{length, drop, get_or}
-use lib.Pow.{pow_pos}
-use borrow.Author.Rules.{rules}
+use mathlib.Core.List.{List}
+use lib.ListN.{length, get_or}
 use Rattle.format.specs.Syntax.{Name}
-use Rattle.runs.specs.Lines.{line, run, width_of, head_name}
-use Rattle.runs.proofs.MarkLaws.{marks_at}
-use Rattle.write_runs.proofs.Runs.{lines, lines_next, lines_end, last_in, no_last}
-use Rattle.read_runs.specs.Steps.{last_of}
-use Rattle.read_runs.proofs.Runs.{Along, begin, turn, stop, ended}
+use Rattle.runs.specs.Lines.{run, width_of}
+use Rattle.write_runs.proofs.Runs.{lines}
+use Rattle.read_runs.proofs.Runs.{Along}
 use Rattle.read_runs.proofs.read_run.Given as goal
 
 abbrev pub invariant-loop-i : goal.invariant-loop-i

@@ -1,9 +1,7 @@
 -- `read_fragment`: a proof with the shape of the code, by the description of id 1.
 -- Assumes nothing.
 use Prim.Native.Nat.{ℕ}
-use native.Mathlib.Omega.{arith}
 use lib.Dec.{eqb}
-use borrow.Author.Rules.{rules}
 use borrow.Author.Tests.{eq-eqb, ne_eqb}
 use Rattle.format.specs.Syntax.{Syntax, when}
 use Rattle.format.specs.Tables.{u, fragment, centre, delivery}

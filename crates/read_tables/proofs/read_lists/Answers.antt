@@ -1,8 +1,6 @@
 -- `read_lists`: the three lists one after the other.
 -- Assumes nothing.
 use Prim.Native.Nat.{ℕ, ◌*◌}
-use native.Mathlib.Omega.{arith}
-use borrow.Author.Rules.{rules}
 use Rattle.format.specs.Syntax.{Syntax, need, end}
 use Rattle.format.specs.Tables.{times, system, new, obsolescent}
 use Rattle.runs.specs.Lines.{run, sign_of, width_of}

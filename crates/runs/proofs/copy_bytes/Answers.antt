@@ -1,12 +1,9 @@
 -- `copy_bytes`: an element more a turn.
 -- Assumes nothing.
-use Prim.Native.Nat.{◌-◌}
 use mathlib.Core.Path.{sym}
 use native.Mathlib.Omega.{arith}
-use borrow.Author.Rules.{rules}
-use lib.ListN.{length}
 use Rattle.runs.proofs.Stores.{stored_short}
-use Rattle.runs.proofs.Copies.{Copying, copy_none, copy_next, copy_all}
+use Rattle.runs.proofs.Copies.{copy_none, copy_next, copy_all}
 use Rattle.runs.proofs.copy_bytes.Goals as goal
 
 pub loop-i-init : goal.loop-i-init

@@ -2,7 +2,6 @@
 -- Assumes nothing.
 use Prim.Native.Nat.{◌-◌}
 use native.Mathlib.Omega.{arith}
-use borrow.Author.Rules.{rules}
 use Rattle.bits.proofs.Cuts.{lowest}
 use Rattle.runs.proofs.MarkLaws.{MarkFacts, mark_facts}
 use Rattle.runs.proofs.low_of.Goals as goal

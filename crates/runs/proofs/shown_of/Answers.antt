@@ -2,9 +2,8 @@
 -- Assumes nothing.
 use mathlib.Core.Path.{refl, sym}
 use native.Mathlib.Omega.{arith}
-use Rattle.bits.proofs.Tests.{below, not_below}
+use Rattle.bits.proofs.Tests.{not_below}
 use Rattle.runs.proofs.MarkLaws.{powers, shown_signed, shown_low, shown_ext, shown_unsigned}
-use borrow.Author.Rules.{rules}
 use Rattle.runs.proofs.shown_of.Goals as goal
 
 pub returns-then-mark-lt128 : goal.returns-then-mark-lt128

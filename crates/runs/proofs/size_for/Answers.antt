@@ -1,8 +1,6 @@
 -- `size_for` meets its contract: by the kind of the mark, and an extension's number.
 -- Assumes nothing.
 use mathlib.Core.Path.{sym, ◌∙◌}
-use native.Mathlib.Omega.{arith}
-use borrow.Author.Rules.{rules}
 use Rattle.runs.proofs.MarkLaws.{not_ext, size_signed, plain_size, small_size, no_size}
 use Rattle.runs.proofs.size_for.Goals as goal
 

@@ -1,6 +1,5 @@
 -- `width_of` meets its contract: each test of the mark is the definition's.
 -- Assumes nothing.
-use borrow.Author.Rules.{rules}
 use Rattle.bits.proofs.Tests.{tests}
 use Rattle.runs.specs.Lines.{width_of}
 use Rattle.runs.proofs.width_of.Goals as goal

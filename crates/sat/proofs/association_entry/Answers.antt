@@ -1,7 +1,6 @@
 -- `association_entry` meets its contract, by the case of the reader's answer.
 -- Assumes nothing.
 use mathlib.Core.Path.{refl}
-use borrow.Author.Rules.{rules}
 use Rattle.format.specs.Tables as tables
 use Rattle.association.specs.Association.{association_of, association_at, refusal_of}
 use Rattle.association.specs.declared.TimeAssociationAnswer.{TimeAssociationAnswer}

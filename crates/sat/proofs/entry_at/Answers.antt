@@ -3,7 +3,6 @@
 use mathlib.Core.Path.{◌≡◌, refl, subst}
 use Prim.Native.Nat.{ℕ}
 use native.Mathlib.Omega.{arith}
-use borrow.Author.Rules.{rules}
 use Rattle.format.specs.Whole.{body_starts}
 use Rattle.format.specs.At.{seek}
 use Rattle.bits.proofs.Tests.{not_equal}

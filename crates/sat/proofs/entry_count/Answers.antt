@@ -1,7 +1,6 @@
 -- `entry_count` meets its contract: of the walk, the number.
 -- Assumes nothing.
 use mathlib.Core.Path.{refl}
-use borrow.Author.Rules.{rules}
 use Rattle.sat.specs.Sat.{count_of}
 use Rattle.sat.proofs.Made.{walked_on, walked_off}
 use Rattle.sat.proofs.entry_count.Goals as goal

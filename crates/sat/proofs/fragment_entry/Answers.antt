@@ -1,7 +1,6 @@
 -- `fragment_entry` meets its contract, by the case of the reader's answer.
 -- Assumes nothing.
 use mathlib.Core.Path.{refl}
-use borrow.Author.Rules.{rules}
 use Rattle.format.specs.Tables as tables
 use Rattle.fragment.specs.Fragment.{fragment_of, fragment_at, fragment_refusal}
 use Rattle.fragment.specs.declared.CellFragmentAnswer.{CellFragmentAnswer}

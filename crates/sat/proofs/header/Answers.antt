@@ -2,7 +2,6 @@
 -- Assumes nothing.
 use mathlib.Core.Path.{refl}
 use native.Mathlib.Omega.{arith}
-use borrow.Author.Rules.{rules}
 use Rattle.format.specs.Tables as tables
 use Rattle.position_v3.specs.PositionV3.{header_of, header_at, header_refusal}
 use Rattle.position_v3.specs.declared.HeaderAnswer.{HeaderAnswer}
@@ -12,7 +11,7 @@ use Rattle.entries.proofs.Ends.{given, given_no}
 use Rattle.sat.specs.Sat.{header_of_body}
 use Rattle.sat.specs.declared.BodyHeader.{BodyHeader}
 use Rattle.sat.specs.declared.BodyHeader.TheVariants.{Header, Refused}
-use Rattle.sat.proofs.Made.{walked_on, walked_off, sure_of}
+use Rattle.sat.proofs.Made.{walked_on, walked_off}
 use Rattle.sat.proofs.header.Goals as goal
 
 after : HeaderAnswer → BodyHeader

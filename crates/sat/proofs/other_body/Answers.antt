@@ -1,7 +1,6 @@
 -- `other_body` meets its contract, by the id.
 -- Assumes nothing.
 use mathlib.Core.Path.{◌≡◌}
-use borrow.Author.Rules.{rules}
 use Rattle.sat.specs.SatBody.{typed_body}
 use Rattle.sat.proofs.Made.{raw_body}
 use Rattle.sat.proofs.other_body.Goals as goal

@@ -1,7 +1,5 @@
 -- `other_entry` meets its contract, by the id.
 -- Assumes nothing.
-use mathlib.Core.Path.{◌≡◌}
-use borrow.Author.Rules.{rules}
 use Rattle.sat.proofs.Made.{raw_entry}
 use Rattle.sat.proofs.other_entry.Goals as goal
 

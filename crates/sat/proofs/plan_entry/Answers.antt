@@ -1,7 +1,6 @@
 -- `plan_entry` meets its contract, by the case of the reader's answer.
 -- Assumes nothing.
 use mathlib.Core.Path.{refl}
-use borrow.Author.Rules.{rules}
 use Rattle.format.specs.Tables as tables
 use Rattle.plan.specs.Plan.{plan_of, plan_at, plan_refusal}
 use Rattle.plan.specs.declared.BeamhoppingAnswer.{BeamhoppingAnswer}

@@ -2,7 +2,6 @@
 -- Assumes nothing.
 use mathlib.Core.Path.{◌≡◌, refl}
 use Prim.Native.Nat.{ℕ}
-use borrow.Author.Rules.{rules}
 use Rattle.format.specs.Tables as tables
 use Rattle.position_v3.specs.PositionV3.{header_of, header_at, header_refusal}
 use Rattle.position_v3.specs.declared.HeaderAnswer.{HeaderAnswer}

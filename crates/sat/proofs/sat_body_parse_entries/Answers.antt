@@ -1,10 +1,8 @@
 -- `sat_body_parse_entries` meets its contract: the body's own faults first, then its fields by the id.
 -- Assumes nothing.
 use mathlib.Core.Path.{◌≡◌, refl}
-use native.Mathlib.Omega.{arith}
-use borrow.Author.Rules.{rules}
 use Rattle.sat.specs.SatBody.{typed_body, sat_body_of}
-use Rattle.sat.proofs.Made.{walked_on, walked_off, sure_of}
+use Rattle.sat.proofs.Made.{walked_on, walked_off}
 use Rattle.sat.proofs.sat_body_parse_entries.Goals as goal
 
 pub returns-in_default : goal.returns-in_default

@@ -1,7 +1,6 @@
 -- `satellite_entry` meets its contract, by the case of the reader's answer.
 -- Assumes nothing.
 use mathlib.Core.Path.{refl}
-use borrow.Author.Rules.{rules}
 use Rattle.format.specs.Tables as tables
 use Rattle.position.specs.Satellite.{satellite_of, satellite_at, position_refusal}
 use Rattle.position.specs.declared.PositionV2Answer.{PositionV2Answer}

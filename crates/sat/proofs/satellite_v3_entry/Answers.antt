@@ -1,7 +1,6 @@
 -- `satellite_v3_entry` meets its contract, by the case of the reader's answer; the elements are handed on.
 -- Assumes nothing.
 use mathlib.Core.Path.{refl, ap}
-use borrow.Author.Rules.{rules}
 use Rattle.format.specs.Tables as tables
 use Rattle.position_v3.specs.PositionV3.{satellite_v3_of, satellite_v3_at, satellite_v3_refusal}
 use Rattle.position_v3.specs.declared.PositionV3Read.{PositionV3Read}

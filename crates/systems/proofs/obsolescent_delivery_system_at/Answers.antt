@@ -5,7 +5,6 @@ use mathlib.Core.Path.{refl}
 use Prim.Native.Nat.{◌+◌, ◌*◌}
 use native.Mathlib.Omega.{arith}
 use lib.ListN.{length}
-use borrow.Author.Rules.{rules}
 use Rattle.format.specs.ByName.{first_by}
 use Rattle.bits.specs.Read.{Room}
 use Rattle.bits.proofs.Answers.{value_fits}

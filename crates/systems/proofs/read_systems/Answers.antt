@@ -1,12 +1,11 @@
 -- `read_systems` meets its contract: the list's own test, and then its clocks one by one.
 -- Assumes nothing.
-use Prim.Native.Nat.{◌+◌, ◌*◌, ◌-◌}
+use Prim.Native.Nat.{◌+◌, ◌*◌}
 use native.Mathlib.Omega.{arith}
-use borrow.Author.Rules.{rules}
 use Rattle.bits.specs.Read.{Room}
 use Rattle.bits.proofs.Places.{start_fits}
 use Rattle.parts.proofs.Lists.{Listed, listed}
-use Rattle.systems.proofs.Lists.{Tested, begin, turn, stop, done, refused_alone, tested_alone}
+use Rattle.systems.proofs.Lists.{turn, stop, done, refused_alone, tested_alone}
 use Rattle.systems.proofs.read_systems.Goals as goal
 use Rattle.systems.proofs.read_systems.Goals.{In-Read, In-loop-i}
 

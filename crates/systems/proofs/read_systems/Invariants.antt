@@ -1,12 +1,7 @@
 -- `read_systems` meets its contract: the list's own test, and then its clocks one by one.
 -- Assumes nothing.
-use Prim.Native.Nat.{◌+◌, ◌*◌, ◌-◌}
-use native.Mathlib.Omega.{arith}
-use borrow.Author.Rules.{rules}
-use Rattle.bits.specs.Read.{Room}
-use Rattle.bits.proofs.Places.{start_fits}
-use Rattle.parts.proofs.Lists.{Listed, listed}
-use Rattle.systems.proofs.Lists.{Tested, begin, turn, stop, done, refused_alone, tested_alone}
+use Prim.Native.Nat.{◌+◌, ◌-◌}
+use Rattle.systems.proofs.Lists.{Tested}
 use Rattle.systems.proofs.read_systems.Given as goal
 
 abbrev pub invariant-loop-i : goal.invariant-loop-i

@@ -1,16 +1,13 @@
 -- `write_each` meets its contract: an entry a turn, from the place where the last one ended.
 -- Assumes nothing.
 use native.Mathlib.Omega.{arith}
-use borrow.Author.Rules.{rules}
-use Prim.Native.Nat.{◌-◌, ◌≤◌}
 use Rattle.format.specs.Syntax.{edition_1, end}
-use Rattle.format.specs.Tables.{times, ephemeris}
 use Rattle.write_ephemeris.specs.Rest.{ephemeris_to}
 use Rattle.write_runs.specs.Went.{outside}
 use Rattle.write_runs.proofs.Lent.{lent}
-use Rattle.write_runs.proofs.Runs.{Along, begin, next, stop, ended}
+use Rattle.write_runs.proofs.Runs.{begin, next, stop, ended}
 use Rattle.write_runs.proofs.WentLaws.{done, stops}
-use Rattle.write_ephemeris.proofs.Each.{as_zero, left, left_all, left_next, left_end}
+use Rattle.write_ephemeris.proofs.Each.{as_zero, left_all, left_next, left_end}
 use Rattle.write_ephemeris.proofs.write_each.Goals as goal
 
 pub loop-i-init : goal.loop-i-init

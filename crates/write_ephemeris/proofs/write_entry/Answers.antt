@@ -1,6 +1,5 @@
 -- `write_entry` meets its contract: by the acceleration flag, one run or the other.
 -- Assumes nothing.
-use borrow.Author.Rules.{rules}
 use Rattle.runs.specs.Lines.{run, sign_of, width_of}
 use Rattle.runs.proofs.Names as names
 use Rattle.write_runs.proofs.WentLaws.{starts, when_yes, when_no}

@@ -1,7 +1,5 @@
 -- `write_ephemerides` meets its contract: the count, the entries, the covariance, one on top of the other.
 -- Assumes nothing.
-use native.Mathlib.Omega.{arith}
-use borrow.Author.Rules.{rules}
 use Rattle.format.specs.Syntax.{edition_1, Syntax, end}
 use Rattle.runs.specs.Lines.{run, sign_of, width_of}
 use Rattle.runs.proofs.Names as names

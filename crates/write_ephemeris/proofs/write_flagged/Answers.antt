@@ -1,6 +1,5 @@
 -- `write_flagged` meets its contract: the metadata by its flag, then the entries.
 -- Assumes nothing.
-use borrow.Author.Rules.{rules}
 use Rattle.format.specs.Syntax.{edition_1}
 use Rattle.write_runs.specs.Went.{outside}
 use Rattle.write_runs.proofs.WentLaws.{done, stops, starts, then, when_yes, when_no}

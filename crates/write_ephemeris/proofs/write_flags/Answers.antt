@@ -1,7 +1,5 @@
 -- `write_flags` meets its contract: the other flags, one on top of the other, then what they announce.
 -- Assumes nothing.
-use native.Mathlib.Omega.{arith}
-use borrow.Author.Rules.{rules}
 use Rattle.format.specs.Syntax.{edition_1, Syntax}
 use Rattle.runs.specs.Lines.{run, sign_of, width_of}
 use Rattle.runs.proofs.Names as names

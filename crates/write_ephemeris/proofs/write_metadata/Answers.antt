@@ -1,6 +1,5 @@
 -- `write_metadata` meets its contract: by its flag, with each usable time by its own.
 -- Assumes nothing.
-use borrow.Author.Rules.{rules}
 use Rattle.format.specs.Syntax.{edition_1, Syntax, end}
 use Rattle.runs.specs.Lines.{run, sign_of, width_of}
 use Rattle.runs.proofs.Names as names

@@ -1,7 +1,5 @@
 -- `write_position3` meets its contract: the parts of a satellite, one on top of the other.
 -- Assumes nothing.
-use native.Mathlib.Omega.{arith}
-use borrow.Author.Rules.{rules}
 use Rattle.format.specs.Syntax.{edition_1, Syntax}
 use Rattle.runs.specs.Lines.{run, sign_of, width_of}
 use Rattle.runs.proofs.Names as names

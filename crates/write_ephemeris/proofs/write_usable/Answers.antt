@@ -1,7 +1,6 @@
 -- `write_usable` meets its contract: a usable time, where its flag is 1.
 -- Assumes nothing.
 use mathlib.Core.List.{[]}
-use borrow.Author.Rules.{rules}
 use Rattle.runs.specs.Lines.{run, sign_of, width_of}
 use Rattle.runs.proofs.Names as names
 use Rattle.write_runs.proofs.WentLaws.{starts, stay, when_yes, when_no}

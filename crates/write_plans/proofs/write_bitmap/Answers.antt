@@ -1,7 +1,6 @@
 -- `write_bitmap` goes through the fields of a map of slots.
 -- Assumes nothing.
 use native.Mathlib.Omega.{arith}
-use borrow.Author.Rules.{rules}
 use Rattle.format.specs.Syntax.{slots, end, edition_1}
 use Rattle.write_runs.specs.Went.{outside}
 use Rattle.runs.specs.Lines.{sign_of, width_of, size_of, run}

@@ -6,17 +6,9 @@ use native.Mathlib.Omega.{arith}
 use lib.ListN.{length}
 use Rattle.format.specs.Whole.{edition_for}
 use Rattle.bits.proofs.Answers.{got_all, got_lt, next_place}
-use Rattle.bits.proofs.Places.{within_fits, end_fits}
+use Rattle.bits.proofs.Places.{end_fits}
 use Rattle.write_runs.proofs.WentLaws.{done}
 use Rattle.write_plans.proofs.PlanLaws.{at_least, at_byte, hopping_byte, length_appended, plan_done, plan_over, plan_cut, plan_no}
-use borrow.Author.Rules.{rules}
-use Rattle.write_plans.proofs.write_ended.Reads as reads
-use Rattle.bits.proofs.read_u.Reads as read-u-reads
-use Rattle.bits.proofs.refusal_of.Reads as refusal-of-reads
-use Rattle.write_plans.proofs.lesser.Reads as lesser-reads
-use Rattle.write_plans.proofs.write_filler.Reads as write-filler-reads
-use Rattle.write_plans.proofs.write_hopping.Reads as write-hopping-reads
-use Rattle.write_plans.proofs.write_length.Reads as write-length-reads
 use Rattle.write_plans.proofs.write_ended.Goals as goal
 
 pub returns-in_default : goal.returns-in_default

@@ -1,10 +1,7 @@
 -- `write_filler`: bytes behind their count in the second edition, and none in the first.
 -- Assumes nothing.
-use borrow.Author.Tests.{eq-eqb, ne_eqb}
+use borrow.Author.Tests.{ne_eqb}
 use Rattle.write_plans.proofs.SlotLaws.{none_appended}
-use borrow.Author.Rules.{rules}
-use Rattle.write_plans.proofs.write_filler.Reads as reads
-use Rattle.write_plans.proofs.write_bytes.Reads as write-bytes-reads
 use Rattle.write_plans.proofs.write_filler.Goals as goal
 
 pub returns : goal.returns

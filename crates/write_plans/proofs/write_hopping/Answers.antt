@@ -1,7 +1,6 @@
 -- `write_hopping` goes through what a plan's length counts; the clocks spare the bits that raw bytes lack.
 -- Assumes nothing.
 use native.Mathlib.Omega.{arith}
-use borrow.Author.Rules.{rules}
 use Rattle.format.specs.Tables.{mode}
 use Rattle.runs.specs.Lines.{sign_of, width_of, size_of, run}
 use Rattle.write_runs.proofs.WentLaws.{done, stops, then, go_on}

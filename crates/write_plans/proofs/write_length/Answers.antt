@@ -2,9 +2,6 @@
 -- Assumes nothing.
 use borrow.Author.Tests.{eq-eqb, ne_eqb}
 use Rattle.write_plans.proofs.SlotLaws.{digits_appended, none_appended}
-use borrow.Author.Rules.{rules}
-use Rattle.write_plans.proofs.write_length.Reads as reads
-use Rattle.write_runs.proofs.put.Reads as put_reads
 use Rattle.write_plans.proofs.write_length.Goals as goal
 
 pub returns-then-version-eq2 : goal.returns-then-version-eq2

@@ -1,7 +1,6 @@
 -- `write_plan` goes through a plan.
 -- Assumes nothing.
 use native.Mathlib.Omega.{arith}
-use borrow.Author.Rules.{rules}
 use Rattle.format.specs.Syntax.{edition_1, plan}
 use Rattle.format.specs.Tables.{hopping, beamhopping}
 use Rattle.runs.specs.Lines.{sign_of, width_of, size_of, run}

@@ -1,15 +1,9 @@
 -- `write_raw`: the bytes up to the plan's end, behind their count.
 -- Assumes nothing.
 use Prim.Native.Nat.{◌*◌}
-use native.Mathlib.Omega.{arith}
 use lib.ListN.{length}
 use Rattle.write_runs.specs.Went.{inside}
-use Rattle.bits.proofs.Places.{within_fits}
 use Rattle.write_plans.proofs.SlotLaws.{raw_fits, raw_done}
-use borrow.Author.Rules.{rules}
-use Rattle.write_plans.proofs.write_raw.Reads as reads
-use Rattle.write_plans.proofs.raw_bits.Reads as raw-bits-reads
-use Rattle.write_plans.proofs.write_bytes.Reads as write-bytes-reads
 use Rattle.write_plans.proofs.write_raw.Goals as goal
 
 pub returns : goal.returns

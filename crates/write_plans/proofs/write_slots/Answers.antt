@@ -1,8 +1,6 @@
 -- `write_slots`: slots that are there, and slots that are not.
 -- Assumes nothing.
 use native.Mathlib.Omega.{arith}
-use borrow.Author.Rules.{rules}
-use Rattle.bits.proofs.Places.{within_fits}
 use Rattle.write_plans.proofs.SlotLaws.{slots_done, slots_no}
 use Rattle.write_plans.proofs.write_slots.Goals as goal
 

@@ -1,10 +1,7 @@
 -- `size_at` meets its contract: below 128 no number matters.
 -- Assumes nothing.
-use mathlib.Core.Path.{sym, ap, ◌∙◌}
+use mathlib.Core.Path.{sym, ◌∙◌}
 use native.Mathlib.Omega.{arith}
-use borrow.Author.Rules.{rules}
-use Rattle.format.specs.Digits.{value_at}
-use Rattle.runs.specs.Lines.{size_for}
 use Rattle.runs.proofs.MarkLaws.{not_ext, mark_facts, plain_size}
 use Rattle.write_runs.proofs.size_at.Goals as goal
 

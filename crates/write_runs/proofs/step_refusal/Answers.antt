@@ -1,6 +1,5 @@
 -- `step_refusal` meets its contract, by the case of the answer.
 -- Assumes nothing.
-use borrow.Author.Rules.{rules}
 use Rattle.write_runs.specs.Steps.{refusal_in}
 use Rattle.write_runs.proofs.step_refusal.Goals as goal
 

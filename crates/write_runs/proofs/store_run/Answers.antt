@@ -1,17 +1,14 @@
 -- `store_run` meets its contract: a mark a turn; the law of runs says what the loop has stored.
 -- Assumes nothing.
-use Prim.Native.Nat.{◌-◌, ◌^◌, ◌≤◌, ◌<◌}
 use mathlib.Core.Path.{◌≡◌, refl}
-use mathlib.Core.List.{List, []}
+use mathlib.Core.List.{[]}
 use native.Mathlib.Omega.{arith}
-use borrow.Author.Rules.{rules}
 use lib.Pow.{pow_pos}
 use lib.ListN.{length, drop, get_or}
-use Rattle.format.specs.Syntax.{Name}
-use Rattle.runs.specs.Lines.{line, run, width_of, head_name}
+use Rattle.runs.specs.Lines.{line, head_name}
 use Rattle.runs.proofs.MarkLaws.{marks_at}
 use Rattle.write_runs.specs.Steps.{last_of}
-use Rattle.write_runs.proofs.Runs.{Along, lines, lines_next, lines_end, Balance, balance_next, balance_end, moved_no, begin, last_in, no_last, turn, stop, ended}
+use Rattle.write_runs.proofs.Runs.{lines_next, lines_end, balance_next, balance_end, moved_no, begin, last_in, no_last, turn, stop, ended}
 use Rattle.write_runs.proofs.store_run.Goals as goal
 
 pub loop-i-init : goal.loop-i-init

@@ -1,17 +1,11 @@
 -- `store_run` meets its contract: a mark a turn; the law of runs says what the loop has stored.
 -- Assumes nothing.
 use Prim.Native.Nat.{◌-◌, ◌^◌, ◌≤◌, ◌<◌}
-use mathlib.Core.Path.{◌≡◌, refl}
-use mathlib.Core.List.{List, []}
-use native.Mathlib.Omega.{arith}
-use borrow.Author.Rules.{rules}
-use lib.Pow.{pow_pos}
-use lib.ListN.{length, drop, get_or}
+use mathlib.Core.List.{List}
+use lib.ListN.{length, get_or}
 use Rattle.format.specs.Syntax.{Name}
-use Rattle.runs.specs.Lines.{line, run, width_of, head_name}
-use Rattle.runs.proofs.MarkLaws.{marks_at}
-use Rattle.write_runs.specs.Steps.{last_of}
-use Rattle.write_runs.proofs.Runs.{Along, lines, lines_next, lines_end, Balance, balance_next, balance_end, moved_no, begin, last_in, no_last, turn, stop, ended}
+use Rattle.runs.specs.Lines.{run, width_of}
+use Rattle.write_runs.proofs.Runs.{Along, lines, Balance}
 use Rattle.write_runs.proofs.store_run.Given as goal
 
 abbrev pub invariant-loop-i : goal.invariant-loop-i

@@ -1,9 +1,7 @@
 -- `write_counted` meets its contract: the bits are asked for first, then the rounds.
 -- Assumes nothing.
 use native.Mathlib.Omega.{arith}
-use borrow.Author.Rules.{rules}
 use Rattle.write_runs.proofs.WentLaws.{need_no, need_yes, starts}
-use Rattle.write_runs.proofs.Runs.{fits_product}
 use Rattle.write_runs.proofs.write_counted.Goals as goal
 
 pub returns-then-have-need : goal.returns-then-have-need

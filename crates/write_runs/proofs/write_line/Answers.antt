@@ -2,11 +2,9 @@
 -- Assumes nothing.
 use lib.Pow.{pow_pos}
 use native.Mathlib.Omega.{arith}
-use Rattle.bits.proofs.Places.{within_fits}
 use Rattle.bits.proofs.Values.{value_at_lt}
 use Rattle.runs.proofs.MarkLaws.{mark_facts, sized_no, sized_yes}
 use Rattle.write_runs.proofs.WentLaws.{line_done, line_no, line_damaged}
-use borrow.Author.Rules.{rules}
 use Rattle.write_runs.proofs.write_line.Goals as goal
 
 pub overflow_add-need : goal.overflow_add-need

@@ -2,7 +2,6 @@
 -- Assumes nothing.
 use native.Mathlib.Omega.{arith}
 use lib.Pow.{pow_pos}
-use borrow.Author.Rules.{rules}
 use Rattle.write_runs.proofs.WentLaws.{need_no, need_yes, starts}
 use Rattle.write_runs.proofs.write_needed.Goals as goal
 

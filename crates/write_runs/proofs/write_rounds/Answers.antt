@@ -1,13 +1,9 @@
 -- `write_rounds` meets its contract: the run a turn.
 -- Assumes nothing.
-use Prim.Native.Nat.{◌-◌, ◌≤◌}
-use mathlib.Core.List.{List, []}
+use mathlib.Core.List.{[]}
 use native.Mathlib.Omega.{arith}
-use borrow.Author.Rules.{rules}
-use Rattle.format.specs.Syntax.{Name}
-use Rattle.format.specs.Tables.{times}
-use Rattle.runs.specs.Lines.{run, run_of}
-use Rattle.write_runs.proofs.Runs.{Along, rounds, rounds_next, rounds_end, rounds_all, as_zero, begin, turn, stop, ended}
+use Rattle.runs.specs.Lines.{run}
+use Rattle.write_runs.proofs.Runs.{rounds_next, rounds_end, rounds_all, as_zero, begin, turn, stop, ended}
 use Rattle.write_runs.proofs.write_rounds.Goals as goal
 
 pub loop-i-init : goal.loop-i-init

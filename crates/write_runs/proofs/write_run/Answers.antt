@@ -1,7 +1,6 @@
 -- `write_run` meets its contract: with no buffer the fields are passed, else they are stored.
 -- Assumes nothing.
 use native.Mathlib.Omega.{arith}
-use borrow.Author.Rules.{rules}
 use Rattle.write_runs.proofs.Passes.{none_stored}
 use Rattle.write_runs.proofs.write_run.Goals as goal
 

@@ -2,7 +2,6 @@
 -- Assumes nothing.
 use Prim.Native.Nat.{ℕ, ◌*◌}
 use native.Mathlib.Omega.{arith}
-use borrow.Author.Rules.{rules}
 use Rattle.format.specs.Syntax.{edition_1, Syntax, need, end}
 use Rattle.format.specs.Tables.{times, system, new, obsolescent}
 use Rattle.runs.specs.Lines.{run, sign_of, width_of}

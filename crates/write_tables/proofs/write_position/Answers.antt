@@ -1,7 +1,6 @@
 -- `write_position` meets its contract: the runs of id 0, by the position system.
 -- Assumes nothing.
 use Prim.Native.Nat.{ℕ}
-use borrow.Author.Rules.{rules}
 use borrow.Author.Tests.{eq-eqb, ne_eqb}
 use lib.Dec.{eqb}
 use Rattle.format.specs.Syntax.{edition_1, Syntax, when, end}

@@ -1,7 +1,6 @@
 -- The number of a type, by its cases.
 -- Assumes nothing.
 use Rattle.association.specs.Association.{type_number}
-use borrow.Author.Rules.{rules}
 use Rattle.association.proofs.AssociationType.to_u8.Goals as goal
 
 pub returns-in-UtcWithoutLeap : goal.returns-in-UtcWithoutLeap

@@ -1,6 +1,5 @@
 -- `kept_answer`: what the measure of the kept body gives.
 -- Assumes nothing.
-use borrow.Author.Rules.{rules}
 use Rattle.format.specs.Syntax.{edition_2}
 use Rattle.ledger.proofs.ByLength.{body_answers}
 use Rattle.ledger.proofs.answers.kept_answer.Goals as goal

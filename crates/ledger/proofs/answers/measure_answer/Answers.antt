@@ -1,7 +1,6 @@
 -- `measure_answer`: the refusal in the measure, or what the length gives.
 -- Assumes nothing.
-use borrow.Author.Rules.{rules}
-use Rattle.ledger.proofs.ByLength.{measure_no, measure_yes}
+use Rattle.ledger.proofs.ByLength.{measure_no}
 use Rattle.ledger.proofs.answers.measure_answer.Goals as goal
 
 pub returns-in_default : goal.returns-in_default

@@ -1,6 +1,5 @@
 -- `plain_answer`: what the measure of the plain body gives.
 -- Assumes nothing.
-use borrow.Author.Rules.{rules}
 use Rattle.format.specs.Syntax.{edition_1}
 use Rattle.ledger.proofs.ByLength.{body_answers}
 use Rattle.ledger.proofs.answers.plain_answer.Goals as goal

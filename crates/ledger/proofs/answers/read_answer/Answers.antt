@@ -1,6 +1,5 @@
 -- `read_answer`: what the ledger's measure gives.
 -- Assumes nothing.
-use borrow.Author.Rules.{rules}
 use Rattle.ledger.proofs.ByLength.{read_answers}
 use Rattle.ledger.proofs.answers.read_answer.Goals as goal
 

@@ -1,6 +1,5 @@
 -- `size_answer`: the refusal in the size, or what the length gives.
 -- Assumes nothing.
-use borrow.Author.Rules.{rules}
 use Rattle.ledger.proofs.ByLength.{size_no, size_yes}
 use Rattle.ledger.proofs.answers.size_answer.Goals as goal
 

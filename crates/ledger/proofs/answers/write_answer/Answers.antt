@@ -1,6 +1,5 @@
 -- `write_answer`: what the ledger's size gives.
 -- Assumes nothing.
-use borrow.Author.Rules.{rules}
 use Rattle.format.specs.Syntax.{edition_1}
 use Rattle.ledger.proofs.ByLength.{write_answers}
 use Rattle.ledger.proofs.answers.write_answer.Goals as goal

@@ -1,6 +1,5 @@
 -- `write_answer_edition_2`: what the size of the ledger in edition 2 gives.
 -- Assumes nothing.
-use borrow.Author.Rules.{rules}
 use Rattle.format.specs.Syntax.{edition_2}
 use Rattle.ledger.proofs.ByLength.{write_answers}
 use Rattle.ledger.proofs.answers.write_answer_edition_2.Goals as goal

@@ -1,6 +1,5 @@
 -- `have_of`: a refusal's second value, and 0 where nothing is refused.
 -- Assumes nothing.
-use borrow.Author.Rules.{rules}
 use Rattle.format.specs.Calls.{have_of}
 use Rattle.ledger.proofs.numbers.have_of.Goals as goal
 

@@ -1,6 +1,5 @@
 -- `length_of`: the result's length, and 0 after a refusal.
 -- Assumes nothing.
-use borrow.Author.Rules.{rules}
 use Rattle.format.specs.Calls.{length_of}
 use Rattle.ledger.proofs.numbers.length_of.Goals as goal
 

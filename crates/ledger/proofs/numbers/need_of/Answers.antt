@@ -1,6 +1,5 @@
 -- `need_of`: a refusal's first value, and 0 where nothing is refused.
 -- Assumes nothing.
-use borrow.Author.Rules.{rules}
 use Rattle.format.specs.Calls.{need_of}
 use Rattle.ledger.proofs.numbers.need_of.Goals as goal
 

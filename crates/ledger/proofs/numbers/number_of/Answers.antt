@@ -1,6 +1,5 @@
 -- `number_of`: a refusal's number, and 0 where nothing is refused.
 -- Assumes nothing.
-use borrow.Author.Rules.{rules}
 use Rattle.format.specs.Calls.{number_of}
 use Rattle.ledger.proofs.numbers.number_of.Goals as goal
 

@@ -1,6 +1,5 @@
 -- `table_id_of`: the table id of what is accepted, and 0 after a refusal.
 -- Assumes nothing.
-use borrow.Author.Rules.{rules}
 use Rattle.format.specs.Calls.{table_id_of}
 use Rattle.ledger.proofs.numbers.table_id_of.Goals as goal
 

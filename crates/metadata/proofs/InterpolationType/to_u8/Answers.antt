@@ -1,6 +1,5 @@
 -- `to_u8` meets its contract, by the case of the type.
 -- Assumes nothing.
-use borrow.Author.Rules.{rules}
 use Rattle.metadata.specs.Metadata.{interpolation_number}
 use Rattle.metadata.proofs.InterpolationType.to_u8.Goals as goal
 

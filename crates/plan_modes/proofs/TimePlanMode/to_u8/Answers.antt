@@ -1,6 +1,5 @@
 -- `to_u8` meets its contract, by the case of the mode.
 -- Assumes nothing.
-use borrow.Author.Rules.{rules}
 use Rattle.plan_modes.specs.Modes.{plan_mode_number}
 use Rattle.plan_modes.proofs.TimePlanMode.to_u8.Goals as goal
 
