@@ -6,7 +6,7 @@ NUMBER = re.compile(r"(?<![\w.«·])(\d+)(?![\w.])")
 SIGNS = [(" < ", " <= "), (" <= ", " < "), (" == ", " != "), (" != ", " == "), (" + ", " - "), (" - ", " + "),
          (" * ", " + "), (" / ", " * "), (" % ", " / "), (" << ", " >> "), (" >> ", " << "), (" += ", " -= "), (" && ", " || ")]
 WORDS = [("leb", "ltb"), ("ltb", "leb"), ("take", "drop"), ("drop", "take"), ("signed", "unsigned"), ("unsigned", "signed"),
-         ("true", "false"), ("false", "true")]
+         ("true", "false"), ("false", "true"), ("edition_1", "edition_2"), ("edition_2", "edition_1")]
 
 
 def code_lines(text):

@@ -49,12 +49,23 @@ class Copy:
                              capture_output=True, text=True)
         log = run.stdout + run.stderr
         if run.returncode == 0:
-            return "proved"
+            return "proved" if self.prints(crate) else "output"
         if "logic=not-proved" not in log or re.search(r"^(\./)?(src|specs)/\S+: error", log, re.M):
             return "compile"
         first = re.search(r"^\./(\S+?): error: `([^`]*)`", log, re.M)
         first = first or re.search(r"^(fn \S+): no proof: .*did not prove `([^`]*)`", log, re.M)
         return "%s %s" % (first.group(1), first.group(2)) if first else "a function"
+
+    def prints(self, crate):
+        """Whether a program still prints what is stored; a library prints nothing."""
+        folder = os.path.join(self.path, "crates", crate)
+        stored = os.path.join(folder, "stdout")
+        if not os.path.isfile(os.path.join(folder, "src", "main.rt")):
+            return True
+        subprocess.run(["rt", "run"], cwd=folder, stdin=subprocess.DEVNULL, capture_output=True)
+        with open(os.path.join(folder, "stdin")) as given:
+            run = subprocess.run([os.path.join(folder, "out", crate)], stdin=given, capture_output=True)
+        return run.stdout == open(stored, "rb").read()
 
     def attempt(self, crate, path, edit, order):
         """Where the edit is refused, or None if it is nowhere."""
@@ -104,7 +115,10 @@ def candidates(order, only, seed):
         if only and crate != only:
             continue
         text = open(os.path.join(ROOT, path)).read().split("\n")
-        names = set(re.findall(r"(?:fn|use \w+::)\s*(\w+)", "\n".join(text)))
+        whole = "\n".join(text)
+        names = set(re.findall(r"(?:fn|use \w+::)\s*(\w+)", whole))
+        for listed in re.findall(r"^use [\w:]+::\{([^}]*)\}", whole, re.M):
+            names |= set(re.findall(r"\b[a-z]\w*", listed))
         found = list(edits.of_file(path, text, names))
         chance.shuffle(found)
         if found:

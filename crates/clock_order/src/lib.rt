@@ -47,9 +47,10 @@ pub fn clock_order(base: u64, ext: u16, other_base: u64, other_ext: u16) -> Cloc
     let first = ticks_of(base, ext);
     let second = ticks_of(other_base, other_ext);
     let way = forward_ticks(first, second);
+    let earlier = way < HALF;
     if way == 0 {
         ClockOrder::Same
-    } else if way < HALF {
+    } else if earlier {
         ClockOrder::Earlier
     } else if way == HALF {
         ClockOrder::Opposite

@@ -222,7 +222,8 @@ pub fn ledger_measure(ledger: &[u8]) -> Measure
         return Measure::Refused(step_refusal(content));
     };
     let length = bits / 8;
-    if 4096 < length {
+    let long = 4096 < length;
+    if long {
         return Measure::Refused(Refusal {
             number: 26,
             need: length,

@@ -138,7 +138,8 @@ fn write_content(version: u8, table_id: u8, body: &[u8], out: &mut [u8]) -> Step
 fn size_in(version: u8, table_id: u8, body: &[u8]) -> LedgerSize
     ensures { result ≡ size_answer (edition_for version) table_id body.now }
 {
-    if 4096 < body.len() {
+    let long = 4096 < body.len();
+    if long {
         return LedgerSize::Refused(Refusal {
             number: 21,
             need: body.len(),

@@ -214,7 +214,8 @@ pub fn read_metadata(s: &[u8], at: u16, meta: u8, start: u8, stop: u8) -> Metada
     requires { Place s.now at }
     ensures { result ≡ metadata_at s.now meta start stop at }
 {
-    if meta != 1 {
+    let none = meta != 1;
+    if none {
         return MetadataAnswer::Read {
             metadata: MaybeMetadata::None,
             next: at,

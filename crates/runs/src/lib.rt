@@ -49,7 +49,8 @@ pub fn size_for(mark: u8, v: u64) -> usize
         return size_of(mark);
     }
     if mark == EXT {
-        if 299 < v {
+        let beyond = 299 < v;
+        if beyond {
             return 0;
         }
         return 2;

@@ -207,7 +207,6 @@ fn write_ended(body: &[u8], at: u16, version: u8, out: &mut [u8], place: usize) 
     requires at_value { (at + 12) % 8 ≡ 0 }
     ensures { Ran body.now (outside (edition_for version)) (plan "plan_length" hopping) at place out.old (λ _. end) out.new result }
 {
-    let have = 8 * body.len();
     let r = read_u(body, at, 12);
     let Bits::Value {
         value: bytes,
@@ -227,14 +226,15 @@ fn write_ended(body: &[u8], at: u16, version: u8, out: &mut [u8], place: usize) 
     else {
         return hopping;
     };
-    if stop < a {
+    let passed = stop < a;
+    if passed {
         return Step::Refused(Refusal {
             number: 14,
             need: (a - stop) as usize,
             have: 0,
         });
     }
-    let next = lesser(stop as usize, have) as u16;
+    let next = lesser(stop as usize, 8 * body.len()) as u16;
     let behind = write_filler(body, a, next, version, out, p);
     Step::Done {
         at: next,

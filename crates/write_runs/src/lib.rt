@@ -92,7 +92,8 @@ fn size_at(body: &[u8], at: u16, mark: u8) -> usize
     requires t { T (mark_ok mark) }
     ensures { result ≡ size_for mark (value_at body.now at (width_of mark)) }
 {
-    if mark < 128 {
+    let plain = mark < 128;
+    if plain {
         return size_of(mark);
     }
     size_for(mark, value_at(body, at, width_of(mark)))

@@ -20,8 +20,8 @@ told o w h =
 pub returns-then-way-eq0 : goal.returns-then-way-eq0
 returns-then-way-eq0 c = told Same (goal.at.returns-then-way-eq0 c).After-forward_ticks-way (omega arith)
 
-pub returns-then-way-lt-HALF : goal.returns-then-way-lt-HALF
-returns-then-way-lt-HALF c = told Earlier (goal.at.returns-then-way-lt-HALF c).After-forward_ticks-way (omega arith)
+pub returns-then-earlier : goal.returns-then-earlier
+returns-then-earlier c = told Earlier (goal.at.returns-then-earlier c).After-forward_ticks-way (omega arith)
 
 pub returns-then-way-eq-HALF : goal.returns-then-way-eq-HALF
 returns-then-way-eq-HALF c = told Opposite (goal.at.returns-then-way-eq-HALF c).After-forward_ticks-way (omega arith)

@@ -50,8 +50,8 @@ returns-in_default c =
     let h : Headed l = (record { four = if1.false; long = (sym get-be.ensures ∙ if2.false); version = (sym is-known.ensures ∙ if3.false) }) in
     measure_unread l h c.in_default.is c.step_refusal.ensures (unheld c.in_default.is read-content.ensures)
 
-pub returns-then-length-gt4096 : goal.returns-then-length-gt4096
-returns-then-length-gt4096 c =
+pub returns-then-long : goal.returns-then-long
+returns-then-long c =
     let a = c.args in
     let if1 = c.if-ledger-lt4 in
     let get-be = c.get_be in
@@ -62,7 +62,7 @@ returns-then-length-gt4096 c =
     let read-content = c.read_content-content in
     let l = a.ledger.now in
     let h : Headed l = (record { four = if1.false; long = (sym get-be.ensures ∙ if2.false); version = (sym is-known.ensures ∙ if3.false) }) in
-    measure_big l h (below_of 256 a.ledger.now (λ i. omega (arith, shared-slice-known.given i))) (held c.in-Done.is read-content.ensures) c.if-length-gt4096.true
+    measure_big l h (below_of 256 a.ledger.now (λ i. omega (arith, shared-slice-known.given i))) (held c.in-Done.is read-content.ensures) c.if-long.true
 
 pub returns : goal.returns
 returns c =
@@ -76,4 +76,4 @@ returns c =
     let read-content = c.read_content-content in
     let l = a.ledger.now in
     let h : Headed l = (record { four = if1.false; long = (sym get-be.ensures ∙ if2.false); version = (sym is-known.ensures ∙ if3.false) }) in
-    measure_size l h (below_of 256 a.ledger.now (λ i. omega (arith, shared-slice-known.given i))) (held c.in-Done.is read-content.ensures) c.if-length-gt4096.false
+    measure_size l h (below_of 256 a.ledger.now (λ i. omega (arith, shared-slice-known.given i))) (held c.in-Done.is read-content.ensures) c.if-long.false

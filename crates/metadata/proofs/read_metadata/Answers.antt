@@ -31,24 +31,24 @@ behind c = record {
       used_told a.s.now 17 a.start (a.at + 120) (let it : Place c.args.s.now (c.args.at + 120) = record { short = omega arith; within = omega arith } in it) c.read_usable-r.ensures c.in-Read.is in it).passed.within;
 }
 
-pub returns-then-meta-ne1 : goal.returns-then-meta-ne1
+pub returns-then-none : goal.returns-then-none
 unfolding metadata_at
-returns-then-meta-ne1 c =
+returns-then-none c =
     let a = c.args in
-    sym (told_answer Read Refused (none a.s.now a.meta a.start a.stop a.at c.if-meta-ne1.true (omega arith)))
+    sym (told_answer Read Refused (none a.s.now a.meta a.start a.stop a.at c.if-none.true (omega arith)))
 
 pub returns-then-have-lt120 : goal.returns-then-have-lt120
 unfolding metadata_at
 returns-then-have-lt120 c =
     let a = c.args in
-    sym (stopped_answer _ Read Refused (block_short a.s.now a.meta a.start a.stop a.at c.if-meta-ne1.false (omega arith)))
+    sym (stopped_answer _ Read Refused (block_short a.s.now a.meta a.start a.stop a.at c.if-none.false (omega arith)))
 
 pub returns-in_default : goal.returns-in_default
 unfolding metadata_at
 returns-in_default c =
     let a = c.args in
     let s = used_stopped a.s.now 17 a.start (a.at + 120) (place (goal.at.returns-in_default c).Else-have-lt120) c.read_usable-r.ensures c.in_default.is c.usable_refusal.ensures in
-    sym (stopped_answer _ Read Refused (start_short a.s.now a.meta a.start a.stop a.at c.if-meta-ne1.false c.if-have-lt120.false s))
+    sym (stopped_answer _ Read Refused (start_short a.s.now a.meta a.start a.stop a.at c.if-none.false c.if-have-lt120.false s))
 
 pub read_usable-r-requires-2 : goal.read_usable-r-requires-2
 read_usable-r-requires-2 c = behind (goal.at.read_usable-r-requires-2 c).In-Read
@@ -60,7 +60,7 @@ returns-in_default-r c =
     let s = used_stopped a.s.now 18 a.stop _ (behind (goal.at.returns-in_default-r c).In-Read) c.read_usable-r-2.ensures c.in_default-r.is c.usable_refusal-in_default-r.ensures in
     sym
     (stopped_answer _ Read Refused
-    (stop_short a.s.now a.meta a.start a.stop a.at c.if-meta-ne1.false c.if-have-lt120.false (start (goal.at.returns-in_default-r c).In-Read) s))
+    (stop_short a.s.now a.meta a.start a.stop a.at c.if-none.false c.if-have-lt120.false (start (goal.at.returns-in_default-r c).In-Read) s))
 
 pub returns : goal.returns
 unfolding metadata_at
@@ -68,4 +68,4 @@ returns c =
     let a = c.args in
     let u = used_told a.s.now 18 a.stop _ (behind (goal.at.returns c).In-Read) c.read_usable-r-2.ensures c.in-Read-r.is in
     ap (λ (m : PositionV3Metadata). Read (Some m) c.in-Read-r.next) c.metadata_at.ensures
-    ∙ sym (told_answer Read Refused (block a.s.now a.meta a.start a.stop a.at c.if-meta-ne1.false c.if-have-lt120.false (start (goal.at.returns c).In-Read) u))
+    ∙ sym (told_answer Read Refused (block a.s.now a.meta a.start a.stop a.at c.if-none.false c.if-have-lt120.false (start (goal.at.returns c).In-Read) u))

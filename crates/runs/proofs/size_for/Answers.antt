@@ -7,11 +7,11 @@ use Rattle.runs.proofs.size_for.Goals as goal
 pub returns-then-mark-lt128 : goal.returns-then-mark-lt128
 returns-then-mark-lt128 c = c.size_of.ensures ∙ sym (plain_size _ _ (not_ext c.if-mark-lt128.true))
 
-pub returns-then-v-gt299 : goal.returns-then-v-gt299
-returns-then-v-gt299 c = sym (no_size _ _ c.if-mark-eq-EXT.true c.if-v-gt299.true)
+pub returns-then-beyond : goal.returns-then-beyond
+returns-then-beyond c = sym (no_size _ _ c.if-mark-eq-EXT.true c.if-beyond.true)
 
 pub returns-then-mark-eq-EXT : goal.returns-then-mark-eq-EXT
-returns-then-mark-eq-EXT c = sym (small_size _ _ c.if-mark-eq-EXT.true c.if-v-gt299.false)
+returns-then-mark-eq-EXT c = sym (small_size _ _ c.if-mark-eq-EXT.true c.if-beyond.false)
 
 pub returns : goal.returns
 returns c = sym (plain_size _ _ c.if-mark-eq-EXT.false ∙ size_signed _ c.if-mark-lt128.false c.if-mark-eq-EXT.false)

@@ -50,11 +50,11 @@ returns-in_default-hopping c =
     let a = c.args in
     plan_no _ _ _ _ c.read_u-r.ensures c.in-Value.is refl c.in_default-hopping.is (c.write_hopping-hopping.ensures (edition_for a.version))
 
-pub returns-then-stop-a : goal.returns-then-stop-a
-returns-then-stop-a c =
+pub returns-then-passed : goal.returns-then-passed
+returns-then-passed c =
     let a = c.args in
     let w = done c.in-Done.is (c.write_hopping-hopping.ensures (edition_for a.version)) in
-    record { to = plan_over _ _ _ _ c.read_u-r.ensures c.in-Value.is refl w c.if-stop-a.true }
+    record { to = plan_over _ _ _ _ c.read_u-r.ensures c.in-Value.is refl w c.if-passed.true }
 
 pub overflow_cast-stop-3 : goal.overflow_cast-stop-3
 overflow_cast-stop-3 c =
@@ -74,7 +74,7 @@ write_filler-behind-requires c =
     let from = length_appended (edition_for a.version) c.in-Value.bytes c.write_length-from.ensures in
     let w = done c.in-Done.is (c.write_hopping-hopping.ensures (edition_for a.version)) in (
       pre.placed.short,
-      at_least n _ _ l.2 l.3 _ w.within c.if-stop-a.false,
+      at_least n _ _ l.2 l.3 _ w.within c.if-passed.false,
       l.1,
       hopping_byte w (omega (arith, g.next, g.there)) (omega (arith, pre.at_value, g.next)) (omega (arith, pre.at_value, g.next)),
       at_byte n _ _ l.2 l.3 (omega arith) (omega (arith, pre.at_value, g.next)),
@@ -86,4 +86,4 @@ returns c =
     let a = c.args in
     let l = c.lesser-next.ensures in
     let w = done c.in-Done.is (c.write_hopping-hopping.ensures (edition_for a.version)) in
-    record { to = plan_done _ _ _ _ c.read_u-r.ensures c.in-Value.is refl l.1 l.2 l.3 c.write_length-from.ensures w c.if-stop-a.false c.write_filler-behind.ensures }
+    record { to = plan_done _ _ _ _ c.read_u-r.ensures c.in-Value.is refl l.1 l.2 l.3 c.write_length-from.ensures w c.if-passed.false c.write_filler-behind.ensures }

@@ -5,8 +5,8 @@ use native.Mathlib.Omega.{arith}
 use Rattle.runs.proofs.MarkLaws.{not_ext, mark_facts, plain_size}
 use Rattle.write_runs.proofs.size_at.Goals as goal
 
-pub returns-then-mark-lt128 : goal.returns-then-mark-lt128
-returns-then-mark-lt128 c = c.size_of.ensures ∙ sym (plain_size _ _ (not_ext c.if-mark-lt128.true))
+pub returns-then-plain : goal.returns-then-plain
+returns-then-plain c = c.size_of.ensures ∙ sym (plain_size _ _ (not_ext c.if-plain.true))
 
 pub value_at-requires : goal.value_at-requires
 value_at-requires c =
