@@ -13,23 +13,44 @@ begin c = start _ _ c.requires
 
 stage1 : (c : In-Read) → let a = c.args in
     One a.s.now a.at c.in-Read.ids c.in-Read.next
-stage1 c = one _ _ (let it : Come c.args.s.now c.args.at delivery (λ ts. ts) c.args.at = start _ _ c.requires in it) c.read_part-r.ensures c.in-Read.is
+stage1 c =
+    let a = c.args in
+    let s0 : Come a.s.now a.at delivery (λ ts. ts) a.at = start _ _ c.requires in
+    one _ _ s0 c.read_part-r.ensures c.in-Read.is
 
 stage2 : (c : In-Value) → let a = c.args in
     Two a.s.now a.at c.in-Read.ids c.in-Read.next c.in-Value.new_6 c.in-Value.next
-stage2 c = two _ _ (let it : let a = c.args in One a.s.now a.at c.in-Read.ids c.in-Read.next = one _ _ (let it : Come c.args.s.now c.args.at delivery (λ ts. ts) c.args.at = start _ _ c.requires in it) c.read_part-r.ensures c.in-Read.is in it) c.read_u-v.ensures c.in-Value.is
+stage2 c =
+    let a = c.args in
+    let s0 : Come a.s.now a.at delivery (λ ts. ts) a.at = start _ _ c.requires in
+    let s1 : One a.s.now a.at c.in-Read.ids c.in-Read.next = one _ _ s0 c.read_part-r.ensures c.in-Read.is in
+    two _ _ s1 c.read_u-v.ensures c.in-Value.is
 
 stage3 : (c : In-Read-r) → let a = c.args in
     Three a.s.now a.at c.in-Read.ids c.in-Read.next c.in-Value.new_6
     c.in-Value.next
     c.in-Read-r.new c.in-Read-r.next
-stage3 c = three _ _ (let it : let a = c.args in Two a.s.now a.at c.in-Read.ids c.in-Read.next c.in-Value.new_6 c.in-Value.next = two _ _ (let it : let a = c.args in One a.s.now a.at c.in-Read.ids c.in-Read.next = one _ _ (let it : Come c.args.s.now c.args.at delivery (λ ts. ts) c.args.at = start _ _ c.requires in it) c.read_part-r.ensures c.in-Read.is in it) c.read_u-v.ensures c.in-Value.is in it) c.read_systems-r.ensures c.in-Read-r.is
+stage3 c =
+    let a = c.args in
+    let s0 : Come a.s.now a.at delivery (λ ts. ts) a.at = start _ _ c.requires in
+    let s1 : One a.s.now a.at c.in-Read.ids c.in-Read.next = one _ _ s0 c.read_part-r.ensures c.in-Read.is in
+    let s2 : Two a.s.now a.at c.in-Read.ids c.in-Read.next c.in-Value.new_6 c.in-Value.next =
+    two _ _ s1 c.read_u-v.ensures c.in-Value.is in
+    three _ _ s2 c.read_systems-r.ensures c.in-Read-r.is
 
 stage4 : (c : In-Value-v) → let a = c.args in
     Four a.s.now a.at c.in-Read.ids c.in-Read.next c.in-Value.new_6
     c.in-Value.next
     c.in-Read-r.new c.in-Read-r.next c.in-Value-v.old_6 c.in-Value-v.next
-stage4 c = four _ _ (let it : let a = c.args in Three a.s.now a.at c.in-Read.ids c.in-Read.next c.in-Value.new_6 c.in-Value.next c.in-Read-r.new c.in-Read-r.next = three _ _ (let it : let a = c.args in Two a.s.now a.at c.in-Read.ids c.in-Read.next c.in-Value.new_6 c.in-Value.next = two _ _ (let it : let a = c.args in One a.s.now a.at c.in-Read.ids c.in-Read.next = one _ _ (let it : Come c.args.s.now c.args.at delivery (λ ts. ts) c.args.at = start _ _ c.requires in it) c.read_part-r.ensures c.in-Read.is in it) c.read_u-v.ensures c.in-Value.is in it) c.read_systems-r.ensures c.in-Read-r.is in it) c.read_u-v-2.ensures c.in-Value-v.is
+stage4 c =
+    let a = c.args in
+    let s0 : Come a.s.now a.at delivery (λ ts. ts) a.at = start _ _ c.requires in
+    let s1 : One a.s.now a.at c.in-Read.ids c.in-Read.next = one _ _ s0 c.read_part-r.ensures c.in-Read.is in
+    let s2 : Two a.s.now a.at c.in-Read.ids c.in-Read.next c.in-Value.new_6 c.in-Value.next =
+    two _ _ s1 c.read_u-v.ensures c.in-Value.is in
+    let s3 : Three a.s.now a.at c.in-Read.ids c.in-Read.next c.in-Value.new_6 c.in-Value.next c.in-Read-r.new c.in-Read-r.next =
+    three _ _ s2 c.read_systems-r.ensures c.in-Read-r.is in
+    four _ _ s3 c.read_u-v-2.ensures c.in-Value-v.is
 
 pub returns-in_default : goal.returns-in_default
 returns-in_default c =

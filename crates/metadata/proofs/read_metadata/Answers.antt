@@ -22,14 +22,11 @@ start : (c : In-Read) → let a = c.args in
     Used a.s.now 17 a.start (a.at + 120) c.in-Read.from c.in-Read.next
 start c =
     let a = c.args in
-    used_told a.s.now 17 a.start (a.at + 120) (let it : Place c.args.s.now (c.args.at + 120) = record { short = omega arith; within = omega arith } in it) c.read_usable-r.ensures c.in-Read.is
+    let p : Place a.s.now (a.at + 120) = record { short = omega arith; within = omega arith } in
+    used_told a.s.now 17 a.start (a.at + 120) p c.read_usable-r.ensures c.in-Read.is
 
 behind : (c : In-Read) → Place c.args.s.now c.in-Read.next
-behind c = record {
-  short = (let it : Place c.args.s.now (c.args.at + 120) = record { short = omega arith; within = omega arith } in it).short;
-  within = (let it : let a = c.args in Used a.s.now 17 a.start (a.at + 120) c.in-Read.from c.in-Read.next = let a = c.args in
-      used_told a.s.now 17 a.start (a.at + 120) (let it : Place c.args.s.now (c.args.at + 120) = record { short = omega arith; within = omega arith } in it) c.read_usable-r.ensures c.in-Read.is in it).passed.within;
-}
+behind c = record { short = c.requires.short; within = (start c).passed.within }
 
 pub returns-then-none : goal.returns-then-none
 unfolding metadata_at

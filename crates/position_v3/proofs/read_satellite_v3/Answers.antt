@@ -17,12 +17,20 @@ front c =
 meta : (c : In-Read-m) → let a = c.args in
     Meta a.s.now a.at c.in-Read-m.metadata c.in-Read-m.next
 meta c =
-    meta_told c.args.s.now c.args.at c.requires.place (let it : let a = c.args in Fronted a.s.now a.at c.in-Read.front c.in-Read.next = front_told c.args.s.now c.args.at c.requires.at_value c.requires.place.within c.read_front-r.ensures c.in-Read.is in it) c.read_metadata-m.ensures c.in-Read-m.is
+    let a = c.args in
+    let f : Fronted a.s.now a.at c.in-Read.front c.in-Read.next =
+    front_told a.s.now a.at c.requires.at_value c.requires.place.within c.read_front-r.ensures c.in-Read.is in
+    meta_told a.s.now a.at c.requires.place f c.read_metadata-m.ensures c.in-Read-m.is
 
 list : (c : In-Read-e) → let a = c.args in
     Listed a.s.now (front_of a.s.now a.at).flags.accel c.in-Read-m.next c.in-Read-e.part c.in-Read-e.next
 list c =
-    list_told c.args.s.now c.args.at c.requires.place (let it : let a = c.args in Fronted a.s.now a.at c.in-Read.front c.in-Read.next = front_told c.args.s.now c.args.at c.requires.at_value c.requires.place.within c.read_front-r.ensures c.in-Read.is in it) (let it : let a = c.args in Meta a.s.now a.at c.in-Read-m.metadata c.in-Read-m.next = meta_told c.args.s.now c.args.at c.requires.place (let it : let a = c.args in Fronted a.s.now a.at c.in-Read.front c.in-Read.next = front_told c.args.s.now c.args.at c.requires.at_value c.requires.place.within c.read_front-r.ensures c.in-Read.is in it) c.read_metadata-m.ensures c.in-Read-m.is in it) c.read_ephemerides-e.ensures c.in-Read-e.is
+    let a = c.args in
+    let f : Fronted a.s.now a.at c.in-Read.front c.in-Read.next =
+    front_told a.s.now a.at c.requires.at_value c.requires.place.within c.read_front-r.ensures c.in-Read.is in
+    let m : Meta a.s.now a.at c.in-Read-m.metadata c.in-Read-m.next =
+    meta_told a.s.now a.at c.requires.place f c.read_metadata-m.ensures c.in-Read-m.is in
+    list_told a.s.now a.at c.requires.place f m c.read_ephemerides-e.ensures c.in-Read-e.is
 
 pub returns-in_default : goal.returns-in_default
 returns-in_default c =
