@@ -16,7 +16,6 @@ FILES = sorted(glob.glob("crates/*/specs/**/*.antt", recursive=True) + glob.glob
 SOURCES = sorted(glob.glob("crates/*/src/*.rt"))
 PART = r"[^\s(){}\[\];,.:\"«»=|↦→λ]"
 DECLARED = re.compile(r"^\s*(?:(?:abbrev|unfoldable|pub|mutual|ruleset) )*(" + PART + r"+(?: " + PART + r"+)*) :(?: |$)")
-MODULE = re.compile(r"^(?:pub )?(?:mod|module) (\S+)")
 TYPE = re.compile(r"^\s*(?:pub )?(?:data|record) (" + PART + "+)")
 RULES = re.compile(r"^\s*(?:pub )?ruleset (" + PART + "+)")
 TOKEN = re.compile(PART + "+")
