@@ -6,7 +6,7 @@ NUMBER = re.compile(r"(?<![\w.«·])(\d+)(?![\w.])")
 SIGNS = [(" < ", " <= "), (" <= ", " < "), (" == ", " != "), (" != ", " == "), (" + ", " - "), (" - ", " + "),
          (" * ", " + "), (" / ", " * "), (" % ", " / "), (" << ", " >> "), (" >> ", " << "), (" += ", " -= "), (" && ", " || ")]
 WORDS = [("leb", "ltb"), ("ltb", "leb"), ("take", "drop"), ("drop", "take"), ("signed", "unsigned"), ("unsigned", "signed"),
-         ("true", "false"), ("false", "true"), ("edition_1", "edition_2"), ("edition_2", "edition_1")]
+         ("true", "false"), ("false", "true"), ("First", "Second"), ("Second", "First")]
 
 
 def code_lines(text):
@@ -58,7 +58,7 @@ def swapped_arguments(line):
     for m in re.finditer(r"\b(\w+), (\w+)\b", line):
         if m.group(1) != m.group(2) and not line.strip().startswith("let"):
             yield line[: m.start()] + m.group(2) + ", " + m.group(1) + line[m.end() :]
-    if line.strip() in ("need,", "have,", "number,"):
+    if line.strip() in ("need,", "have,", "fault,"):
         yield line.replace("need,", "need: have,") if "need" in line else line.replace("have,", "have: need,")
 
 

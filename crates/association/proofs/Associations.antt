@@ -1,38 +1,36 @@
 -- An association whose bits are all there, by the case of its clock; the tests in front of it; and a type's number.
 -- Assumes nothing.
-use Prim.Native.Nat.{ℕ, ◌*◌, ◌%◌, ◌≤◌, ◌<◌}
-use mathlib.Core.Path.{◌≡◌, refl, sym, ap, ◌∙◌}
+use Prim.Native.Nat.{ℕ, ◌*◌, ◌%◌, ◌≤◌}
+use mathlib.Core.Path.{◌≡◌, refl, sym, ◌∙◌}
 use mathlib.Core.Bool.{Bool, true, false, cond}
 use mathlib.Core.List.{List, [], ◌∷◌, ◌++◌}
 use native.Mathlib.Omega.{arith}
 use lib.Dec.{eqb}
 use lib.ListN.{length}
 use borrow.Author.Tests.{eqb-true}
+use Rattle.std.specs.Prelude.{Option, Some, Result, Ok, Err}
 use Rattle.format.specs.Digits.{value_at}
-use Rattle.format.specs.Refusals.{refuse}
 use Rattle.format.specs.Syntax.{Syntax, end, unsigned, Field, num, when, need}
 use Rattle.format.specs.Tables.{association, time, leap, bits, u}
 use Rattle.format.specs.ByName.{first_by}
-use Rattle.format.specs.At.{read}
+use Rattle.format.specs.At.{read, found_at}
 use Rattle.format.specs.declared.Refusal.{Refusal}
+use Rattle.format.specs.declared.Found.{Found}
+use Rattle.format.specs.declared.Fault.TheVariants.{BodyEmpty, AssociationCut}
 use Rattle.format.proofs.ReadLaws as laws
 use Rattle.format.proofs.GroupLaws.{Line, plainly, fields, stand, group_from, one_from}
 use Rattle.bits.specs.Read.{Place, Room}
-use Rattle.bits.proofs.Reading.{enough, short}
+use Rattle.bit_reader.specs.Readers.{enough_at}
+use Rattle.bit_reader.proofs.Reading.{enough, short}
 use Rattle.bits.proofs.Tests.{equal}
-use Rattle.clocks.specs.Clocks.{clock_at, refusal_of as clockRefusal}
+use Rattle.clocks.specs.Clocks.{clock_at}
 use Rattle.clocks.specs.declared.Clock.{Clock}
-use Rattle.clocks.specs.declared.ClockAnswer.{ClockAnswer}
-use Rattle.clocks.specs.declared.ClockAnswer.TheVariants as ca
 use Rattle.clocks.proofs.Clocks.{put, told, got_clock, cut_clock}
 use Rattle.association.specs.Association.{association_type_of, type_number, association_of, association_at, leap_at, reserved_at}
-use Rattle.association.specs.declared.MaybeLeapInfo.{MaybeLeapInfo}
-use Rattle.association.specs.declared.MaybeLeapInfo.TheVariants.{Some}
+use Rattle.association.specs.declared.LeapInfo.{LeapInfo}
 use Rattle.association.specs.declared.AssociationType.{AssociationType}
 use Rattle.association.specs.declared.AssociationType.TheVariants.{UtcWithoutLeap, UtcWithLeap, Reserved}
 use Rattle.association.specs.declared.TimeAssociationBody.{TimeAssociationBody}
-use Rattle.association.specs.declared.TimeAssociationAnswer.{TimeAssociationAnswer}
-use Rattle.association.specs.declared.TimeAssociationAnswer.TheVariants.{Entry, Refused}
 
 -- a number through its type is its 4 low bits
 pub type_number_lem : (v : ℕ) → type_number (association_type_of v) ≡ v % 16
@@ -72,19 +70,18 @@ module _ (b : List ℕ) where
   abbrev tail : Syntax
   tail = bits "association_type" 4 branch
 
-  abbrev ok : List Field → ℕ → TimeAssociationAnswer
-  ok ts q = Entry (association_of ts) q
+  abbrev ok : List Field → ℕ → Result (Found TimeAssociationBody) Refusal
+  ok ts q = found_at (association_of ts) q
 
   -- the two tests: no bit is there, and fewer than 152
-  pub none_there : 8 * length b < 1 → Refused (refuse 2 1 (8 * length b)) ≡ association_at b
+  pub none_there : {r : Result (Unit {0}) Refusal} {f : Refusal} → r ≡ enough_at b 0 BodyEmpty 1 → r ≡ Err f → Err f ≡ association_at b
   unfolding association_at association
-  none_there h = short b 0 0 ok Refused 2 1 (need 9 152 tail) (omega arith) (ap (λ (n : ℕ). Refused (refuse 2 1 n)) (omega arith))
+  none_there e m = short b 0 0 ok Err BodyEmpty 1 (need AssociationCut 152 tail) e m refl
 
-  pub too_few : 1 ≤ 8 * length b → 8 * length b < 152 → Refused (refuse 9 152 (8 * length b)) ≡ association_at b
+  pub too_few : {r q : Result (Unit {0}) Refusal} {t : Unit {0}} {f : Refusal} → r ≡ enough_at b 0 BodyEmpty 1 → r ≡ Ok t
+      → q ≡ enough_at b 0 AssociationCut 152 → q ≡ Err f → Err f ≡ association_at b
   unfolding association_at association
-  too_few g h =
-      enough b 0 0 ok Refused 2 1 (need 9 152 tail) (omega arith)
-      (short b 0 0 ok Refused 9 152 tail (omega arith) (ap (λ (n : ℕ). Refused (refuse 9 152 n)) (omega arith)))
+  too_few e m g n = enough b 0 0 ok Err BodyEmpty 1 (need AssociationCut 152 tail) e m (short b 0 0 ok Err AssociationCut 152 tail g n refl)
 
   -- the leap flags of type 1, from their numbers
   pub leaps_of : {k x59 x61 y59 y61 : ℕ} → k ≡ 1 → x59 ≡ value_at b 4 1 → x61 ≡ value_at b 5 1 → y59 ≡ value_at b 6 1 → y61 ≡ value_at b 7 1
@@ -107,67 +104,67 @@ module _ (b : List ℕ) where
   front t = num unsigned "association_type" 4 kind ∷ cond t (stand b 0 4 leaps) (stand b 0 4 others)
 
   -- what is made of the fields from the clock on
-  abbrev from_clock : List Field → ℕ → TimeAssociationAnswer
+  abbrev from_clock : List Field → ℕ → Result (Found TimeAssociationBody) Refusal
   from_clock ts q = ok (front (eqb kind 1) ++ ts) q
 
   -- the reading goes as far as the clock
-  to_clock : 152 ≤ 8 * length b → association_at b ≡ read b 0 time 8 from_clock Refused
+  to_clock : 152 ≤ 8 * length b → association_at b ≡ read b 0 time 8 from_clock Err
   unfolding association_at association
   to_clock h = head ∙ go (eqb kind 1) refl
     where
-      f : List Field → ℕ → TimeAssociationAnswer
+      f : List Field → ℕ → Result (Found TimeAssociationBody) Refusal
       f ts q = ok (num unsigned "association_type" 4 kind ∷ ts) q
 
-      head : association_at b ≡ read b 0 (branch kind) 4 f Refused
+      head : association_at b ≡ read b 0 (branch kind) 4 f Err
       head =
-          laws.need_at b 0 0 ok Refused 2 1 (need 9 152 tail) (omega arith)
-          ∙ laws.need_at b 0 0 ok Refused 9 152 tail (omega arith)
-          ∙ one_from b 0 0 0 unsigned "association_type" 4 branch ok Refused (omega arith)
+          laws.need_at b 0 0 ok Err BodyEmpty 1 (need AssociationCut 152 tail) (omega arith)
+          ∙ laws.need_at b 0 0 ok Err AssociationCut 152 tail (omega arith)
+          ∙ one_from b 0 0 0 unsigned "association_type" 4 branch ok Err (omega arith)
 
-      go : (t : Bool) → eqb kind 1 ≡ t → read b 0 (branch kind) 4 f Refused ≡ read b 0 time 8 (λ ts. ok (front t ++ ts)) Refused
+      go : (t : Bool) → eqb kind 1 ≡ t → read b 0 (branch kind) 4 f Err ≡ read b 0 time 8 (λ ts. ok (front t ++ ts)) Err
       go true e =
-          laws.when_yes b 0 4 f Refused (eqb kind 1) (leap time) (u "reserved_zero_future_use_4" 4 time) e
-          ∙ group_from b 0 0 4 leaps time f Refused (omega arith)
+          laws.when_yes b 0 4 f Err (eqb kind 1) (leap time) (u "reserved_zero_future_use_4" 4 time) e
+          ∙ group_from b 0 0 4 leaps time f Err (omega arith)
       go false e =
-          laws.when_no b 0 4 f Refused (eqb kind 1) (leap time) (u "reserved_zero_future_use_4" 4 time) e
-          ∙ group_from b 0 0 4 others time f Refused (omega arith)
+          laws.when_no b 0 4 f Err (eqb kind 1) (leap time) (u "reserved_zero_future_use_4" 4 time) e
+          ∙ group_from b 0 0 4 others time f Err (omega arith)
 
   -- the clock's place
   at_clock : Room b 0 152 → Place b 8
   at_clock l = record { short = l.short; within = omega arith }
 
   -- a clock that is refused, and one that is read
-  pub clock_refused : {c : ClockAnswer} {g h : Refusal} → Room b 0 152 → c ≡ clock_at b 8 → c ≡ ca.Refused g → h ≡ clockRefusal c → Refused h ≡ association_at b
-  clock_refused l e m w = cut_clock b 0 8 from_clock Refused "ncr" _ e m w (at_clock l) refl ∙ sym (to_clock l.fits)
+  pub clock_refused : {c : Result (Found Clock) Refusal} {g : Refusal} → Room b 0 152 → c ≡ clock_at b 8 → c ≡ Err g → Err g ≡ association_at b
+  clock_refused l e m = cut_clock b 0 8 from_clock Err "ncr" _ e m (at_clock l) refl ∙ sym (to_clock l.fits)
 
-  clock_there : {c : ClockAnswer} {k : Clock} {n : ℕ} → Room b 0 152 → c ≡ clock_at b 8 → c ≡ ca.Read k n → Entry (placed k) 152 ≡ association_at b
+  clock_there : {c : Result (Found Clock) Refusal} {k : Found Clock} → Room b 0 152 → c ≡ clock_at b 8 → c ≡ Ok k → found_at (placed k.value) 152 ≡ association_at b
   unfolding association_of first_by
-  clock_there {c} {k} {n} l e m = got_clock b 0 8 from_clock Refused "ncr" _ e m (at_clock l) (rw (told b 8 (at_clock l) e m).next behind) ∙ sym (to_clock l.fits)
+  clock_there {c} {k} l e m = got_clock b 0 8 from_clock Err "ncr" _ e m (at_clock l) (rw (told b 8 (at_clock l) e m).next behind) ∙ sym (to_clock l.fits)
     where
-      f : List Field → ℕ → TimeAssociationAnswer
-      f ts q = from_clock (put "ncr" k ts) q
+      f : List Field → ℕ → Result (Found TimeAssociationBody) Refusal
+      f ts q = from_clock (put "ncr" k.value ts) q
 
-      go : (t : Bool) → eqb kind 1 ≡ t → Entry (placed k) 152 ≡ ok (front (eqb kind 1) ++ put "ncr" k (stand b 0 56 stamps)) 152
+      go : (t : Bool) → eqb kind 1 ≡ t → found_at (placed k.value) 152 ≡ ok (front (eqb kind 1) ++ put "ncr" k.value (stand b 0 56 stamps)) 152
       go true h = rw h
       go false h = rw h
 
-      behind : Entry (placed k) 152 ≡ read b 0 (fields stamps end) 56 f Refused
+      behind : found_at (placed k.value) 152 ≡ read b 0 (fields stamps end) 56 f Err
       behind =
           go (eqb kind 1) refl
-          ∙ sym (group_from b 0 0 56 stamps end f Refused l.fits ∙ laws.end_at b 0 152 (λ ts. f (stand b 0 56 stamps ++ ts)) Refused l.fits)
+          ∙ sym (group_from b 0 0 56 stamps end f Err l.fits ∙ laws.end_at b 0 152 (λ ts. f (stand b 0 56 stamps ++ ts)) Err l.fits)
 
   -- the same of the parts that the code reads
-  pub all_read : {j sec ns r4 n : ℕ} {t : AssociationType} {l : MaybeLeapInfo} {c : ClockAnswer} {ncr : Clock}
-      → Room b 0 152 → c ≡ clock_at b 8 → c ≡ ca.Read ncr n
+  pub all_read : {j sec ns r4 : ℕ} {t : AssociationType} {l : Option LeapInfo} {c : Result (Found Clock) Refusal} {ncr : Found Clock}
+      → Room b 0 152 → c ≡ clock_at b 8 → c ≡ Ok ncr
       → j ≡ kind → t ≡ association_type_of j → l ≡ leap_at b j → sec ≡ value_at b 56 64 → ns ≡ value_at b 120 32 → r4 ≡ reserved_at b j
-      → Entry (record {
+      → found_at (record {
         association_type = t;
         leap_info = l;
-        ncr_base = ncr.base;
-        ncr_ext = ncr.ext;
+        ncr_base = ncr.value.base;
+        ncr_ext = ncr.value.ext;
         association_timestamp_seconds = sec;
         association_timestamp_nanoseconds = ns;
         reserved_zero_future_use_4 = r4;
-        ncr_reserved_zero_future_use = ncr.reserved;
+        ncr_reserved_zero_future_use = ncr.value.reserved;
       }) 152 ≡ association_at b
   all_read h e m p1 p2 p3 p4 p5 p6 = rw (p2, p3, p6, p4, p5, p1) (clock_there h e m)

@@ -1,25 +1,17 @@
 -- Table id 2: a time association from its fields, each by its name.
 -- Assumes nothing: these are definitions.
-use Rattle.std.specs.Prelude.{ℕ, ◌%◌, Bool, cond, List, eqb}
+use Rattle.std.specs.Prelude.{ℕ, ◌%◌, Bool, cond, List, eqb, Option, Some, None, Result, Err}
 use Rattle.format.specs.Digits.{value_at}
-use Rattle.format.specs.Refusals.{refuse}
 use Rattle.format.specs.Syntax.{Name, Field}
 use Rattle.format.specs.Tables.{association}
 use Rattle.format.specs.ByName.{the}
-use Rattle.format.specs.At.{read}
+use Rattle.format.specs.At.{read, found_at}
 use Rattle.format.specs.declared.Refusal.{Refusal}
+use Rattle.format.specs.declared.Found.{Found}
 use Rattle.association.specs.declared.AssociationType.{AssociationType}
 use Rattle.association.specs.declared.AssociationType.TheVariants.{UtcWithoutLeap, UtcWithLeap, Reserved}
-use Rattle.association.specs.declared.MaybeLeapInfo.{MaybeLeapInfo}
-use Rattle.association.specs.declared.MaybeLeapInfo.TheVariants.{Some, None}
+use Rattle.association.specs.declared.LeapInfo.{LeapInfo}
 use Rattle.association.specs.declared.TimeAssociationBody.{TimeAssociationBody}
-use Rattle.association.specs.declared.TimeAssociationAnswer.{TimeAssociationAnswer}
-use Rattle.association.specs.declared.TimeAssociationAnswer.TheVariants.{Entry, Refused}
-
--- the refusal in an answer; zeros where there is none
-unfoldable pub refusal_of : TimeAssociationAnswer → Refusal
-refusal_of (Entry a n) = refuse 0 0 0
-refusal_of (Refused f) = f
 
 -- the type of a number's 4 low bits, and the number of a type
 unfoldable pub association_type_of : ℕ → AssociationType
@@ -34,7 +26,7 @@ type_number (Reserved v) = v
 abbrev pub is_set : Name → List Field → Bool
 is_set nm ts = eqb (the nm ts) 1
 
-abbrev pub leap_of : List Field → MaybeLeapInfo
+abbrev pub leap_of : List Field → Option LeapInfo
 leap_of ts =
     cond (eqb (the "association_type" ts) 1)
     (Some (record { leap59 = is_set "leap59" ts; leap61 = is_set "leap61" ts; pastleap59 = is_set "pastleap59" ts; pastleap61 = is_set "pastleap61" ts }))
@@ -55,11 +47,11 @@ association_of ts =
     }
 
 -- what reading a body finds
-unfoldable pub association_at : List ℕ → TimeAssociationAnswer
-association_at b = read b 0 association 0 (λ ts q. Entry (association_of ts) q) Refused
+unfoldable pub association_at : List ℕ → Result (Found TimeAssociationBody) Refusal
+association_at b = read b 0 association 0 (λ ts q. found_at (association_of ts) q) Err
 
 -- the leap flags, or the reserved bits in their place, where they stand in a body
-abbrev pub leap_at : List ℕ → ℕ → MaybeLeapInfo
+abbrev pub leap_at : List ℕ → ℕ → Option LeapInfo
 leap_at b kind =
     cond (eqb kind 1)
     (Some (record {

@@ -1,36 +1,17 @@
-// A reader that keeps its place in a lent body; each method is over the function of crate `bits` that takes the place by value.
+// A reader that keeps its place in a lent body; each method is over the function of crate `bits` that takes the place
+// by value. And the test that a group of bits is there, which readers make before they take its fields.
 #![tactic(auto)]
 
 ghost use Rattle.std.specs.Prelude.{◌≡◌, ◌+◌, ◌-◌, ◌*◌, ◌≤◌, length};
 ghost use Rattle.bits.specs.Read.{Place, Room};
-ghost use Rattle.bit_reader.specs.Readers.{start_of, moved, reads, reads_signed, place_after, place_after_signed};
+ghost use Rattle.bit_reader.specs.Readers.{start_of, moved, reads, reads_signed, value_alone, place_after, enough_at};
 
-use bits::{Bits, SignedBits};
+use format::{Fault, Refusal};
 
 #[derive(Drop)]
 pub struct BitReader<'a> {
     pub data: &'a [u8],
     pub bit_pos: u16,
-}
-
-// The place behind bits that were read; the old place where they were refused.
-fn place_after(r: Bits, at: u16) -> u16
-    ensures { result ≡ place_after r at }
-{
-    match r {
-        Bits::Value { value: _, next } => next,
-        Bits::Refused(_) => at,
-    }
-}
-
-// The same for bits that are a signed number.
-fn place_after_signed(r: SignedBits, at: u16) -> u16
-    ensures { result ≡ place_after_signed r at }
-{
-    match r {
-        SignedBits::Value { value: _, next } => next,
-        SignedBits::Refused(_) => at,
-    }
 }
 
 impl<'a> BitReader<'a> {
@@ -58,24 +39,43 @@ impl<'a> BitReader<'a> {
     }
 
     // Reads an unsigned number and goes on behind it; a refusal leaves the place as it was.
-    pub fn read_u(&mut self, bits: usize) -> Bits
+    #[tactic(auto, unfolding(crate::specs::Readers::value_alone, crate::specs::Readers::place_after))]
+    pub fn read_u(&mut self, bits: usize) -> Result<u64, Refusal>
         requires { Place self.old.«data».now self.old.bit_pos × (bits ≤ 64) }
-        ensures { (result ≡ reads self.old bits) × (self.new ≡ moved self.old (place_after result self.old.bit_pos)) }
+        ensures answer { result ≡ value_alone (reads self.old bits) }
+        ensures place { self.new ≡ moved self.old (place_after (reads self.old bits) self.old.bit_pos) }
     {
-        let at = self.bit_pos;
-        let r = bits::read_u(self.data, at, bits);
-        self.bit_pos = place_after(r, at);
-        r
+        let found = bits::read_u(self.data, self.bit_pos, bits)?;
+        self.bit_pos = found.next;
+        Ok(found.value)
     }
 
     // The same for a signed number.
-    pub fn read_i(&mut self, bits: usize) -> SignedBits
+    #[tactic(auto, unfolding(crate::specs::Readers::value_alone, crate::specs::Readers::place_after))]
+    pub fn read_i(&mut self, bits: usize) -> Result<i64, Refusal>
         requires { Place self.old.«data».now self.old.bit_pos × ((1 ≤ bits) × (bits ≤ 64)) }
-        ensures { (result ≡ reads_signed self.old bits) × (self.new ≡ moved self.old (place_after_signed result self.old.bit_pos)) }
+        ensures answer { result ≡ value_alone (reads_signed self.old bits) }
+        ensures place { self.new ≡ moved self.old (place_after (reads_signed self.old bits) self.old.bit_pos) }
     {
-        let at = self.bit_pos;
-        let r = bits::read_i(self.data, at, bits);
-        self.bit_pos = place_after_signed(r, at);
-        r
+        let found = bits::read_i(self.data, self.bit_pos, bits)?;
+        self.bit_pos = found.next;
+        Ok(found.value)
     }
+}
+
+// Tests that so many bits are there from a place on: refused with a fault of the caller's where they pass the end.
+#[tactic(auto, unfolding(crate::specs::Readers::enough_at))]
+pub fn enough(s: &[u8], at: u16, fault: Fault, bits: usize) -> Result<(), Refusal>
+    requires { Place s.now at }
+    ensures { result ≡ enough_at s.now at fault bits }
+{
+    let have = bits::remaining_bits(s, at);
+    if have < bits {
+        return Err(Refusal {
+            fault,
+            need: bits,
+            have,
+        });
+    }
+    Ok(())
 }

@@ -4,20 +4,30 @@
 ghost use Rattle.std.specs.Prelude.{◌≡◌};
 ghost use Rattle.format.specs.Added.{ticks};
 ghost use Rattle.clock_order.specs.Clock.{forward};
-ghost use Rattle.clock_order.specs.Order.{clock_order};
+ghost use Rattle.clock_order.specs.Order.{clock_order, order_number};
 
 // A full turn of the clock, in ticks, and half of it.
 const TURN: u64 = 2576980377600;
 
 const HALF: u64 = TURN / 2;
 
-// The first reading against the second; opposite is half a turn away.
+// The first reading against the second, with the number that C gets; opposite is half a turn away.
 #[derive(Clone, Copy)]
 pub enum ClockOrder {
-    Earlier,
-    Same,
-    Later,
-    Opposite,
+    Same = 0,
+    Earlier = 1,
+    Later = 2,
+    Opposite = 3,
+}
+
+impl ClockOrder {
+    // The order's number.
+    #[tactic(auto, unfolding(crate::specs::Order::order_number))]
+    pub fn number(self) -> u32
+        ensures { result ≡ order_number self }
+    {
+        self as u32
+    }
 }
 
 // A clock's ticks, of its 33 and its 9 low bits.

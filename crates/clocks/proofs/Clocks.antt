@@ -9,21 +9,22 @@ use native.Mathlib.Omega.{arith}
 use lib.ListN.{length}
 use lib.Dec.{leb}
 use borrow.Author.Tests.{leb-true, leb-false}
+use Rattle.std.specs.Prelude.{Result, Ok, Err}
 use Rattle.format.specs.Digits.{value_at}
 use Rattle.format.specs.Refusals.{refuse}
 use Rattle.format.specs.Syntax.{Name, Syntax, unsigned, end, at_most, Field, num}
 use Rattle.format.specs.Tables.{clock, stamp, u, bits}
 use Rattle.format.specs.ByName.{first_by}
-use Rattle.format.specs.At.{read}
+use Rattle.format.specs.At.{read, found_at}
 use Rattle.format.specs.declared.Refusal.{Refusal}
+use Rattle.format.specs.declared.Found.{Found}
+use Rattle.format.specs.declared.Fault.TheVariants.{FieldCut, ExtensionTooLarge}
 use Rattle.format.proofs.ReadLaws as laws
 use Rattle.format.proofs.GroupLaws.{plainly, group, group_from, one_from}
 use Rattle.bits.specs.Read.{Place, Room}
-use Rattle.clocks.specs.Clocks.{clock_at, clock_of, clock_by, stamp_of, refusal_of}
+use Rattle.clocks.specs.Clocks.{clock_at, clock_of, clock_by, stamp_of}
 use Rattle.clocks.specs.declared.Clock.{Clock}
 use Rattle.clocks.specs.declared.Stamp.{Stamp}
-use Rattle.clocks.specs.declared.ClockAnswer.{ClockAnswer}
-use Rattle.clocks.specs.declared.ClockAnswer.TheVariants.{Read, Refused}
 
 -- the fields of a clock and of a stamp, in front of others
 abbrev pub put : Name → Clock → List Field → List Field
@@ -56,7 +57,8 @@ module _ {A : Type 0} (b : List ℕ) (e p : ℕ) (c : Name) (k : ℕ → Syntax)
       ∙ one_from b e p 39 unsigned (c ++ "_ext") 9 k _ fail h
 
   -- of one that is cut short the first field that goes on behind the end refuses it, whatever follows
-  pub cut_short : p ≤ 8 * length b → 8 * length b < p + 48 → read b e (lines c k) p found fail ≡ fail (refuse 1 (cut_at (8 * length b) p) (8 * length b))
+  pub cut_short : p ≤ 8 * length b → 8 * length b < p + 48
+      → read b e (lines c k) p found fail ≡ fail (refuse FieldCut (cut_at (8 * length b) p) (8 * length b))
   cut_short l h = first (leb (p + 33) n) refl
     where
       n : ℕ
@@ -68,7 +70,8 @@ module _ {A : Type 0} (b : List ℕ) (e p : ℕ) (c : Name) (k : ℕ → Syntax)
       base : p + 33 ≤ n → x ≡ read b e (after1 c k) (p + 33) (λ ts. found (num unsigned (c ++ "_base") 33 (value_at b p 33) ∷ ts)) fail
       base m = laws.field_at b e p found fail unsigned (c ++ "_base") 33 (λ _. after1 c k) m
 
-      second : p + 33 ≤ n → (t : Bool) → leb (p + 33 + 6) n ≡ t → x ≡ fail (refuse 1 (cond t (p + 33 + 6 + 9) (p + 33 + 6)) n)
+      second : p + 33 ≤ n → (t : Bool) → leb (p + 33 + 6) n ≡ t
+          → x ≡ fail (refuse FieldCut (cond t (p + 33 + 6 + 9) (p + 33 + 6)) n)
       second m true r =
           let g : p + 33 + 6 ≤ n = leb-true (p + 33 + 6) n r in
           base m ∙ laws.field_at b e (p + 33) _ fail unsigned (c ++ "_reserved_zero_future_use") 6 (λ _. bits (c ++ "_ext") 9 k) g
@@ -76,7 +79,8 @@ module _ {A : Type 0} (b : List ℕ) (e p : ℕ) (c : Name) (k : ℕ → Syntax)
       second m false r =
           base m ∙ laws.field_no b e (p + 33) _ fail unsigned (c ++ "_reserved_zero_future_use") 6 (λ _. bits (c ++ "_ext") 9 k) m (leb-false (p + 33 + 6) n r)
 
-      first : (t : Bool) → leb (p + 33) n ≡ t → x ≡ fail (refuse 1 (cond t (cond (leb (p + 33 + 6) n) (p + 33 + 6 + 9) (p + 33 + 6)) (p + 33)) n)
+      first : (t : Bool) → leb (p + 33) n ≡ t
+          → x ≡ fail (refuse FieldCut (cond t (cond (leb (p + 33 + 6) n) (p + 33 + 6 + 9) (p + 33 + 6)) (p + 33)) n)
       first true r = second (leb-true (p + 33) n r) (leb (p + 33 + 6) n) refl
       first false r = laws.field_no b e p found fail unsigned (c ++ "_base") 33 (λ _. after1 c k) l (leb-false (p + 33) n r)
 
@@ -84,36 +88,40 @@ module _ {A : Type 0} (b : List ℕ) (e p : ℕ) (c : Name) (k : ℕ → Syntax)
 
 -- what follows the extension v
 abbrev tail : Syntax → ℕ → Syntax
-tail s v = at_most 30 v 299 s
+tail s v = at_most ExtensionTooLarge v 299 s
 
 module _ {A : Type 0} (b : List ℕ) (e p : ℕ) (c : Name) (s : Syntax) (found : List Field → ℕ → A) (fail : Refusal → A) where
   there : p + 48 ≤ 8 * length b → (clock_of b p).ext ≤ 299
       → read b e (clock c s) p found fail ≡ read b e s (p + 48) (λ ts. found (put c (clock_of b p) ts)) fail
-  there h m = all_there b e p c (tail s) found fail h ∙ laws.most_at b e (p + 48) _ fail 30 (clock_of b p).ext 299 s m
+  there h m = all_there b e p c (tail s) found fail h ∙ laws.most_at b e (p + 48) _ fail ExtensionTooLarge (clock_of b p).ext 299 s m
 
-  above : p + 48 ≤ 8 * length b → 299 < (clock_of b p).ext → read b e (clock c s) p found fail ≡ fail (refuse 30 (clock_of b p).ext 299)
-  above h m = all_there b e p c (tail s) found fail h ∙ laws.most_no b e (p + 48) _ fail 30 (clock_of b p).ext 299 s m
+  above : p + 48 ≤ 8 * length b → 299 < (clock_of b p).ext
+      → read b e (clock c s) p found fail ≡ fail (refuse ExtensionTooLarge (clock_of b p).ext 299)
+  above h m = all_there b e p c (tail s) found fail h ∙ laws.most_no b e (p + 48) _ fail ExtensionTooLarge (clock_of b p).ext 299 s m
 
 -- what is made of the fields of a clock that is read alone
-abbrev pub alone : List Field → ℕ → ClockAnswer
-alone ts q = Read (clock_by "ncr" ts) q
+abbrev pub alone : List Field → ℕ → Result (Found Clock) Refusal
+alone ts q = found_at (clock_by "ncr" ts) q
 
 module _ (b : List ℕ) (p : ℕ) where
   -- the three for a clock that is read alone
-  pub clock_there : p + 48 ≤ 8 * length b → (clock_of b p).ext ≤ 299 → clock_at b p ≡ Read (clock_of b p) (p + 48)
+  pub clock_there : p + 48 ≤ 8 * length b → (clock_of b p).ext ≤ 299 → clock_at b p ≡ found_at (clock_of b p) (p + 48)
   unfolding clock_at first_by
-  clock_there h m = there b 0 p "ncr" end alone Refused h m ∙ laws.end_at b 0 (p + 48) (λ ts. alone (put "ncr" (clock_of b p) ts)) Refused h
+  clock_there h m = there b 0 p "ncr" end alone Err h m ∙ laws.end_at b 0 (p + 48) (λ ts. alone (put "ncr" (clock_of b p) ts)) Err h
 
-  pub clock_above : p + 48 ≤ 8 * length b → 299 < (clock_of b p).ext → clock_at b p ≡ Refused (refuse 30 (clock_of b p).ext 299)
+  pub clock_above : p + 48 ≤ 8 * length b → 299 < (clock_of b p).ext
+      → clock_at b p ≡ Err (refuse ExtensionTooLarge (clock_of b p).ext 299)
   unfolding clock_at
-  clock_above h m = above b 0 p "ncr" end alone Refused h m
+  clock_above h m = above b 0 p "ncr" end alone Err h m
 
-  pub clock_cut : p ≤ 8 * length b → 8 * length b < p + 48 → clock_at b p ≡ Refused (refuse 1 (cut_at (8 * length b) p) (8 * length b))
+  pub clock_cut : p ≤ 8 * length b → 8 * length b < p + 48
+      → clock_at b p ≡ Err (refuse FieldCut (cut_at (8 * length b) p) (8 * length b))
   unfolding clock_at
-  clock_cut l h = cut_short b 0 p "ncr" (tail end) alone Refused l h
+  clock_cut l h = cut_short b 0 p "ncr" (tail end) alone Err l h
 
   -- one of the three holds
-  pub cases : {P : Type 0} → (p + 48 ≤ 8 * length b → (clock_of b p).ext ≤ 299 → P) → (p + 48 ≤ 8 * length b → 299 < (clock_of b p).ext → P)
+  pub cases : {P : Type 0} → (p + 48 ≤ 8 * length b → (clock_of b p).ext ≤ 299 → P)
+      → (p + 48 ≤ 8 * length b → 299 < (clock_of b p).ext → P)
       → (8 * length b < p + 48 → P) → P
   cases {P} one two three = first (leb (p + 48) (8 * length b)) refl
     where
@@ -126,37 +134,41 @@ module _ (b : List ℕ) (p : ℕ) where
       first false r = three (leb-false _ _ r)
 
 -- what is known where a clock was read
-pub record Told (b : List ℕ) (p : ℕ) (k : Clock) (n : ℕ) : Type 0 where
-  pub clock : k ≡ clock_of b p
-  pub next : n ≡ p + 48
+pub record Told (b : List ℕ) (p : ℕ) (x : Found Clock) : Type 0 where
+  pub clock : x.value ≡ clock_of b p
+  pub next : x.next ≡ p + 48
   pub there : p + 48 ≤ 8 * length b
 
 -- no clock is both read and refused
-not_both : {P : Type 0} {k : Clock} {n : ℕ} {f : Refusal} → Read k n ≡ Refused f → P
+not_both : {P : Type 0} {x : Found Clock} {f : Refusal} → ◌≡◌ {A = Result (Found Clock) Refusal} (Ok x) (Err f) → P
 not_both e = let z : ◌≡◌ {A = ℕ} 0 1 = cc in absurd (omega arith)
 
-pub told : (b : List ℕ) (p : ℕ) {k : Clock} {n : ℕ} {r : ClockAnswer} → Place b p → r ≡ clock_at b p → r ≡ Read k n → Told b p k n
-told b p {k} {n} {r} l e m =
+pub told : (b : List ℕ) (p : ℕ) {x : Found Clock} {r : Result (Found Clock) Refusal} → Place b p → r ≡ clock_at b p
+    → r ≡ Ok x → Told b p x
+told b p {x} l e m =
     cases b p
-    (λ h g. let z : Read k n ≡ Read (clock_of b p) (p + 48) = sym m ∙ e ∙ clock_there b p h g in
+    (λ h g. let z : Ok x ≡ found_at (clock_of b p) (p + 48) = sym m ∙ e ∙ clock_there b p h g in
     record { clock = cc; next = cc; there = h })
     (λ h g. not_both (sym m ∙ e ∙ clock_above b p h g))
     (λ h. not_both (sym m ∙ e ∙ clock_cut b p l.within h))
 
 -- reading goes on behind a clock that was read; in a group, with the bits that are left of it
-pub clock_place : {b : List ℕ} {k : Clock} {n : ℕ} {r : ClockAnswer} (p : ℕ) → r ≡ Read k n → r ≡ clock_at b p → Place b p → Place b n
+pub clock_place : {b : List ℕ} {x : Found Clock} {r : Result (Found Clock) Refusal} (p : ℕ) → r ≡ Ok x
+    → r ≡ clock_at b p → Place b p → Place b x.next
 clock_place {b} p m e l = let t = told b p l e m in record { short = l.short; within = omega arith }
 
-pub clock_room : {b : List ℕ} {k : Clock} {n : ℕ} {r : ClockAnswer} (p w : ℕ) → r ≡ Read k n → r ≡ clock_at b p → Room b p (w + 48) → Room b n w
+pub clock_room : {b : List ℕ} {x : Found Clock} {r : Result (Found Clock) Refusal} (p w : ℕ) → r ≡ Ok x
+    → r ≡ clock_at b p → Room b p (w + 48)
+    → Room b x.next w
 clock_room {b} p w m e l =
     let t = told b p (record { short = l.short; within = omega arith }) e m in
     record { short = l.short; fits = omega arith }
 
 module _ {A : Type 0} (b : List ℕ) (e p : ℕ) (c : Name) (s : Syntax) (found : List Field → ℕ → A) (fail : Refusal → A) where
   -- what becomes of a clock's answer
-  then : ClockAnswer → A
-  then (Read k n) = read b e s n (λ ts. found (put c k ts)) fail
-  then (Refused f) = fail f
+  then : Result (Found Clock) Refusal → A
+  then (Ok x) = read b e s x.next (λ ts. found (put c x.value ts)) fail
+  then (Err f) = fail f
 
   -- under every name, and whatever follows it, a clock does as it does alone
   alike : Place b p → read b e (clock c s) p found fail ≡ then (clock_at b p)
@@ -169,16 +181,17 @@ module _ {A : Type 0} (b : List ℕ) (e p : ℕ) (c : Name) (s : Syntax) (found 
 
 module _ {A : Type 0} {x : A} (b : List ℕ) (e p : ℕ) (found : List Field → ℕ → A) (fail : Refusal → A) where
   -- a clock that `read_clock` or `clock_within` read, or refused
-  pub got_clock : {k : Clock} {n : ℕ} {r : ClockAnswer} (c : Name) (s : Syntax) → r ≡ clock_at b p → r ≡ Read k n → Place b p
-      → x ≡ read b e s n (λ ts. found (put c k ts)) fail → x ≡ read b e (clock c s) p found fail
+  pub got_clock : {y : Found Clock} {r : Result (Found Clock) Refusal} (c : Name) (s : Syntax) → r ≡ clock_at b p
+      → r ≡ Ok y → Place b p
+      → x ≡ read b e s y.next (λ ts. found (put c y.value ts)) fail → x ≡ read b e (clock c s) p found fail
   unfolding then
   got_clock c s h m l q = q ∙ ap (then b e p c s found fail) (sym m ∙ h) ∙ sym (alike b e p c s found fail l)
 
-  pub cut_clock : {f g : Refusal} {r : ClockAnswer} (c : Name) (s : Syntax) → r ≡ clock_at b p → r ≡ Refused f → g ≡ refusal_of r → Place b p
-      → x ≡ fail g → x ≡ read b e (clock c s) p found fail
-  unfolding then refusal_of
-  cut_clock c s h m w l q =
-      q ∙ ap fail (w ∙ ap refusal_of m) ∙ ap (then b e p c s found fail) (sym m ∙ h) ∙ sym (alike b e p c s found fail l)
+  pub cut_clock : {f : Refusal} {r : Result (Found Clock) Refusal} (c : Name) (s : Syntax) → r ≡ clock_at b p
+      → r ≡ Err f → Place b p
+      → x ≡ fail f → x ≡ read b e (clock c s) p found fail
+  unfolding then
+  cut_clock c s h m l q = q ∙ ap (then b e p c s found fail) (sym m ∙ h) ∙ sym (alike b e p c s found fail l)
 
   -- a stamp that is all there
   pub there_stamp : {k : Stamp} (t : Name) (s : Syntax) → k ≡ stamp_of b p → Room b p 56

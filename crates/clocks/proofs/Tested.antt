@@ -5,38 +5,41 @@ use mathlib.Core.Path.{◌≡◌, sym, ap, ◌∙◌}
 use mathlib.Core.List.{List}
 use native.Mathlib.Omega.{arith}
 use lib.ListN.{length}
+use Rattle.std.specs.Prelude.{Result, Ok, Err}
 use Rattle.format.specs.Refusals.{refuse}
 use Rattle.format.specs.Syntax.{end}
 use Rattle.format.specs.ByName.{first_by}
+use Rattle.format.specs.At.{found_at}
 use Rattle.format.specs.declared.Refusal.{Refusal}
+use Rattle.format.specs.declared.Found.{Found}
+use Rattle.format.specs.declared.Fault.TheVariants.{FieldCut}
 use Rattle.format.proofs.ReadLaws as laws
 use Rattle.bits.specs.Read.{Place, Room}
 use Rattle.bits.proofs.Tests.{at_most, not_at_most}
-use Rattle.clocks.specs.Clocks.{clock_at, clock_of, refusal_of}
+use Rattle.clocks.specs.Clocks.{clock_at, clock_of}
 use Rattle.clocks.specs.Inner.{fields_at, tested}
 use Rattle.clocks.specs.declared.Clock.{Clock}
-use Rattle.clocks.specs.declared.ClockAnswer.{ClockAnswer}
-use Rattle.clocks.specs.declared.ClockAnswer.TheVariants.{Read, Refused}
 use Rattle.clocks.proofs.Clocks.{put, cut_at, alone, all_there, cut_short, clock_there, clock_above, clock_cut, cases}
 
 -- the test of whatever the fields were found to be
-retested : ClockAnswer → ClockAnswer
-retested (Read k n) = tested k n
-retested (Refused f) = Refused f
+retested : Result (Found Clock) Refusal → Result (Found Clock) Refusal
+retested (Ok x) = tested x
+retested (Err f) = Err f
 
 module _ (b : List ℕ) (p : ℕ) where
   -- the fields, where all of them are there, and where they are cut short
-  fields_there : p + 48 ≤ 8 * length b → fields_at b p ≡ Read (clock_of b p) (p + 48)
+  fields_there : p + 48 ≤ 8 * length b → fields_at b p ≡ found_at (clock_of b p) (p + 48)
   unfolding fields_at first_by
   fields_there h =
-      all_there b 0 p "ncr" (λ _. end) alone Refused h ∙ laws.end_at b 0 (p + 48) (λ ts. alone (put "ncr" (clock_of b p) ts)) Refused h
+      all_there b 0 p "ncr" (λ _. end) alone Err h ∙ laws.end_at b 0 (p + 48) (λ ts. alone (put "ncr" (clock_of b p) ts)) Err h
 
-  fields_cut : p ≤ 8 * length b → 8 * length b < p + 48 → fields_at b p ≡ Refused (refuse 1 (cut_at (8 * length b) p) (8 * length b))
+  fields_cut : p ≤ 8 * length b → 8 * length b < p + 48
+      → fields_at b p ≡ Err (refuse FieldCut (cut_at (8 * length b) p) (8 * length b))
   unfolding fields_at
-  fields_cut l h = cut_short b 0 p "ncr" (λ _. end) alone Refused l h
+  fields_cut l h = cut_short b 0 p "ncr" (λ _. end) alone Err l h
 
   -- the test of a clock that is all there
-  whole : p + 48 ≤ 8 * length b → tested (clock_of b p) (p + 48) ≡ clock_at b p
+  whole : p + 48 ≤ 8 * length b → tested (record { value = clock_of b p; next = p + 48 }) ≡ clock_at b p
   unfolding tested
   whole h =
       cases b p
@@ -54,13 +57,17 @@ module _ (b : List ℕ) (p : ℕ) where
       (λ h. ap retested (fields_cut l.within h) ∙ sym (clock_cut b p l.within h))
 
   -- fields that were read and then tested, or were refused; and the test of a clock in a group that is there
-  pub read_tested : {r a : ClockAnswer} {k : Clock} {n : ℕ} → Place b p → r ≡ fields_at b p → r ≡ Read k n → a ≡ tested k n → a ≡ clock_at b p
+  pub read_tested : {r a : Result (Found Clock) Refusal} {x : Found Clock} → Place b p → a ≡ tested x
+      → r ≡ fields_at b p → r ≡ Ok x → a ≡ clock_at b p
   unfolding retested
-  read_tested l e m q = q ∙ ap retested (sym m ∙ e) ∙ by_steps l
+  read_tested l q e m = q ∙ ap retested (sym m ∙ e) ∙ by_steps l
 
-  pub fields_refused : {r : ClockAnswer} {f g : Refusal} → Place b p → r ≡ fields_at b p → r ≡ Refused f → g ≡ refusal_of r → Refused g ≡ clock_at b p
-  unfolding retested refusal_of
-  fields_refused l e m w = ap Refused (w ∙ ap refusal_of m) ∙ ap retested (sym m ∙ e) ∙ by_steps l
+  pub fields_refused : {r a : Result (Found Clock) Refusal} {f : Refusal} → Place b p → r ≡ fields_at b p → r ≡ Err f
+      → a ≡ Err f → a ≡ clock_at b p
+  unfolding retested
+  fields_refused l e m q = q ∙ ap retested (sym m ∙ e) ∙ by_steps l
 
-  pub within : {a : ClockAnswer} {k : Clock} → Room b p 48 → k ≡ clock_of b p → a ≡ tested k (p + 48) → a ≡ clock_at b p
-  within l e q = q ∙ ap (λ (z : Clock). tested z (p + 48)) e ∙ whole l.fits
+  pub within : {a : Result (Found Clock) Refusal} {k : Clock} → Room b p 48 → k ≡ clock_of b p
+      → a ≡ tested (record { value = k; next = p + 48 })
+      → a ≡ clock_at b p
+  within l e q = q ∙ ap (λ (z : Clock). tested (record { value = z; next = p + 48 })) e ∙ whole l.fits

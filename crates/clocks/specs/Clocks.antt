@@ -1,23 +1,16 @@
 -- Clocks and stamps: by the name of their fields, and at a place.
 -- Assumes nothing: these are definitions.
-use Rattle.std.specs.Prelude.{ℕ, ◌+◌, List}
+use Rattle.std.specs.Prelude.{ℕ, ◌+◌, List, Result, Err}
 use Prim.Native.String.{◌++◌}
 use Rattle.format.specs.Digits.{value_at}
-use Rattle.format.specs.Refusals.{refuse}
 use Rattle.format.specs.Syntax.{Name, Field, end}
 use Rattle.format.specs.Tables.{clock}
 use Rattle.format.specs.ByName.{the}
-use Rattle.format.specs.At.{read}
+use Rattle.format.specs.At.{read, found_at}
 use Rattle.format.specs.declared.Refusal.{Refusal}
+use Rattle.format.specs.declared.Found.{Found}
 use Rattle.clocks.specs.declared.Clock.{Clock}
 use Rattle.clocks.specs.declared.Stamp.{Stamp}
-use Rattle.clocks.specs.declared.ClockAnswer.{ClockAnswer}
-use Rattle.clocks.specs.declared.ClockAnswer.TheVariants.{Read, Refused}
-
--- the refusal in an answer; zeros where there is none
-unfoldable pub refusal_of : ClockAnswer → Refusal
-refusal_of (Read k n) = refuse 0 0 0
-refusal_of (Refused f) = f
 
 -- the clock of a name, and the stamp of a name
 abbrev pub clock_by : Name → List Field → Clock
@@ -38,8 +31,8 @@ stamp_by t ts =
     }
 
 -- reading a clock alone; under which name makes no difference
-unfoldable pub clock_at : List ℕ → ℕ → ClockAnswer
-clock_at b p = read b 0 (clock "ncr" end) p (λ ts q. Read (clock_by "ncr" ts) q) Refused
+unfoldable pub clock_at : List ℕ → ℕ → Result (Found Clock) Refusal
+clock_at b p = read b 0 (clock "ncr" end) p (λ ts q. found_at (clock_by "ncr" ts) q) Err
 
 -- the clock and the stamp that the bits at a place spell
 abbrev pub clock_of : List ℕ → ℕ → Clock

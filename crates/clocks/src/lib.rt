@@ -3,12 +3,12 @@
 
 ghost use Rattle.std.specs.Prelude.{◌≡◌};
 ghost use Rattle.bits.specs.Read.{Place, Room};
-ghost use Rattle.clocks.specs.Clocks.{clock_at, clock_of, stamp_of, refusal_of};
+ghost use Rattle.clocks.specs.Clocks.{clock_at, clock_of, stamp_of};
 ghost use Rattle.clocks.specs.Inner.{fields_at, tested};
 
 use bit_reader::BitReader;
-use bits::{Bits, refusal_of, value_at};
-use format::Refusal;
+use bits::value_at;
+use format::{Fault, Found, Refusal};
 
 #[derive(Clone, Copy)]
 pub struct Clock {
@@ -25,81 +25,48 @@ pub struct Stamp {
     pub fraction: u32,
 }
 
-// What reading a clock at a place finds: the clock and the place behind it, or why it is refused.
-#[derive(Clone, Copy)]
-pub enum ClockAnswer {
-    Read { clock: Clock, next: u16 },
-    Refused(Refusal),
-}
-
-// The refusal in an answer; zeros where the answer is a clock.
-pub fn clock_refusal(r: ClockAnswer) -> Refusal
-    ensures { result ≡ refusal_of r }
-{
-    match r {
-        ClockAnswer::Read { clock: _, next: _ } => Refusal {
-            number: 0,
-            need: 0,
-            have: 0,
-        },
-        ClockAnswer::Refused(f) => f,
-    }
-}
-
 // Reads a clock's fields by a reader of its own; refused with number 1 at the first that goes on behind the end.
-fn take_clock(s: &[u8], at: u16) -> ClockAnswer
+fn take_clock(s: &[u8], at: u16) -> Result<Found<Clock>, Refusal>
     requires { Place s.now at }
     ensures { result ≡ fields_at s.now at }
 {
     let mut reader = BitReader::new(s);
     reader.skip(at);
-    let r = reader.read_u(33);
-    let Bits::Value { value: base, .. } = r else {
-        return ClockAnswer::Refused(refusal_of(r));
-    };
-    let r = reader.read_u(6);
-    let Bits::Value { value: spare, .. } = r else {
-        return ClockAnswer::Refused(refusal_of(r));
-    };
-    let r = reader.read_u(9);
-    let Bits::Value { value: ext, .. } = r else {
-        return ClockAnswer::Refused(refusal_of(r));
-    };
-    let clock = Clock {
-        base,
-        reserved: spare as u8,
-        ext: ext as u16,
-    };
-    ClockAnswer::Read {
-        clock,
+    let base = reader.read_u(33)?;
+    let reserved = reader.read_u(6)?;
+    let ext = reader.read_u(9)?;
+    Ok(Found {
+        value: Clock {
+            base,
+            reserved: reserved as u8,
+            ext: ext as u16,
+        },
         next: reader.bit_pos,
-    }
+    })
 }
 
 // A clock whose fields were read: an extension above 299 is damage, and is refused with number 30.
-fn checked(clock: Clock, next: u16) -> ClockAnswer
-    ensures { result ≡ tested clock next }
+#[tactic(auto, unfolding(crate::specs::Inner::tested))]
+fn checked(found: Found<Clock>) -> Result<Found<Clock>, Refusal>
+    ensures { result ≡ tested found }
 {
-    if clock.ext > 299 {
-        return ClockAnswer::Refused(Refusal {
-            number: 30,
-            need: clock.ext as usize,
+    if found.value.ext > 299 {
+        return Err(Refusal {
+            fault: Fault::ExtensionTooLarge,
+            need: found.value.ext as usize,
             have: 299,
         });
     }
-    ClockAnswer::Read { clock, next }
+    Ok(found)
 }
 
 // Reads a clock: refused where it is cut short, or by its extension.
-pub fn read_clock(s: &[u8], at: u16) -> ClockAnswer
+pub fn read_clock(s: &[u8], at: u16) -> Result<Found<Clock>, Refusal>
     requires { Place s.now at }
     ensures { result ≡ clock_at s.now at }
 {
-    let r = take_clock(s, at);
-    let ClockAnswer::Read { clock, next } = r else {
-        return ClockAnswer::Refused(clock_refusal(r));
-    };
-    checked(clock, next)
+    let found = take_clock(s, at)?;
+    checked(found)
 }
 
 // The fields of a clock at a place where all of it is there.
@@ -115,12 +82,14 @@ fn clock_at(s: &[u8], at: u16) -> Clock
 }
 
 // Reads a clock of a group whose bits were found to be there; refused by its extension alone.
-pub fn clock_within(s: &[u8], at: u16) -> ClockAnswer
+pub fn clock_within(s: &[u8], at: u16) -> Result<Found<Clock>, Refusal>
     requires { Room s.now at 48 }
     ensures { result ≡ clock_at s.now at }
 {
-    let clock = clock_at(s, at);
-    checked(clock, at + 48)
+    checked(Found {
+        value: clock_at(s, at),
+        next: at + 48,
+    })
 }
 
 // The stamp at a place where all of it is there.

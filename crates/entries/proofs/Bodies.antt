@@ -4,8 +4,9 @@ use Prim.Native.Nat.{ℕ, zero, suc, ◌*◌, ◌-◌, ◌%◌, ◌≤◌, ◌<�
 use mathlib.Core.Path.{◌≡◌, refl, sym, ap, ◌∙◌}
 use mathlib.Core.List.{List, [], ◌∷◌}
 use native.Mathlib.Omega.{arith}
-use lib.ListN.{length, drop, get_or}
+use lib.ListN.{length, drop}
 use borrow.Author.Tests.{le-leb, lt-leb}
+use Rattle.std.specs.Prelude.{slice_get, Option, Some, None, Result, Ok, Err}
 use Rattle.format.specs.Digits.{bits_of}
 use Rattle.format.specs.Refusals.{refuse}
 use Rattle.format.specs.Syntax.{Syntax, end, Field, Parse, got, refused, and_then}
@@ -14,13 +15,12 @@ use Rattle.format.specs.Body.{read_body}
 use Rattle.format.specs.Whole.{Layout, sole, many, opaque, layout, starts, starts_as, body_starts}
 use Rattle.format.specs.At.{made, read, end_of, seek}
 use Rattle.format.specs.declared.Refusal.{Refusal}
-use Rattle.format.specs.declared.EntryEnd.{EntryEnd}
-use Rattle.format.specs.declared.EntryEnd.TheVariants.{At, Refused}
+use Rattle.format.specs.declared.Fault.TheVariants.{BodyTooLong}
 use Rattle.format.proofs.FineTables.{fine_header, least_header}
 use Rattle.format.proofs.DigitLaws.{length_bits}
 use Rattle.format.proofs.ReadLaws.{rest_at}
 use Rattle.format.proofs.WalkLaws.{read_on, read_no}
-use Rattle.entries.specs.Entries.{IsList, entry_syntax, least_bits, head_in, head_syntax, head_end, end_refusal}
+use Rattle.entries.specs.Entries.{IsList, entry_syntax, least_bits, head_in, head_syntax, head_end}
 
 -- ---- what stands before the entries
 
@@ -32,7 +32,7 @@ pub record Headed (id : ℕ) (b : List ℕ) (q : ℕ) : Type 0 where
   pub reads : read_body (8 * length b) 0 (head_syntax id) (bits_of b) ≡ got hs (drop q (bits_of b))
   pub starts : starts_as (layout id) b ≡ starts (8 * length b) (least_bits id) (entry_syntax id) (8 * length b - q) (drop q (bits_of b))
 
-no_head : (b : List ℕ) (q : ℕ) → end_of b end 0 ≡ At q → q ≡ 0
+no_head : (b : List ℕ) (q : ℕ) → end_of b end 0 ≡ Ok q → q ≡ 0
 unfolding end_of read read_body
 no_head b q e =
     let z : 8 * length b - length (bits_of b) ≡ q = cc in
@@ -43,20 +43,20 @@ module _ (b : List ℕ) where
   n = 8 * length b
 
   headed_none : (id m : ℕ) (s : Syntax) (q : ℕ) → starts_as (layout id) b ≡ starts n m s (length (bits_of b)) (bits_of b) → least_bits id ≡ m → entry_syntax id ≡ s → head_syntax id ≡ end
-      → end_of b end 0 ≡ At q → Headed id b q
+      → end_of b end 0 ≡ Ok q → Headed id b q
   unfolding read_body
   headed_none id m s q h em es eh e =
       let z : q ≡ 0 = no_head b q e in
       let l : length (bits_of b) ≡ n - 0 = length_bits b ∙ omega arith in
       rw z (record { within = omega arith; byte = refl; hs = []; reads = rw eh; starts = h ∙ rw (l, em, es) })
 
-  headed_some : (q : ℕ) → end_of b header 0 ≡ At q → Headed 4 b q
+  headed_some : (q : ℕ) → end_of b header 0 ≡ Ok q → Headed 4 b q
   unfolding starts_as
   headed_some q e =
       let t = read_on 64 header fine_header least_header (omega arith) b 0 q (omega arith) refl e in
       record { within = t.within; byte = t.byte; hs = t.ts; reads = t.reads; starts = rw (t.reads, rest_at b q) }
 
-  pub headed : (id q : ℕ) → IsList (layout id) → end_of b (head_syntax id) 0 ≡ At q → Headed id b q
+  pub headed : (id q : ℕ) → IsList (layout id) → end_of b (head_syntax id) 0 ≡ Ok q → Headed id b q
   unfolding starts_as read_body
   headed zero q l e = headed_none 0 32 position q refl refl refl refl e
   headed (suc zero) q l e = headed_none 1 34 fragment q refl refl refl refl e
@@ -65,12 +65,12 @@ module _ (b : List ℕ) where
   headed (suc (suc (suc (suc zero)))) q l e = headed_some q e
   headed (suc (suc (suc (suc (suc i))))) q l e = absurd l
 
-  head_refused : (f : Refusal) → end_of b header 0 ≡ Refused f → starts_as (layout 4) b ≡ refused f.number f.need f.have
+  head_refused : (f : Refusal) → end_of b header 0 ≡ Err f → starts_as (layout 4) b ≡ refused f.fault f.need f.have
   unfolding starts_as
   head_refused f e = rw (read_no b header 0 f e)
 
   -- no other table has a head to refuse
-  pub unheaded : (id : ℕ) (f : Refusal) → IsList (layout id) → end_of b (head_syntax id) 0 ≡ Refused f → starts_as (layout id) b ≡ refused f.number f.need f.have
+  pub unheaded : (id : ℕ) (f : Refusal) → IsList (layout id) → end_of b (head_syntax id) 0 ≡ Err f → starts_as (layout id) b ≡ refused f.fault f.need f.have
   unfolding end_of read read_body
   unheaded zero f l e = let o : ◌≡◌ {A = ℕ} 0 1 = cc in absurd (omega arith)
   unheaded (suc zero) f l e = let o : ◌≡◌ {A = ℕ} 0 1 = cc in absurd (omega arith)
@@ -80,11 +80,11 @@ module _ (b : List ℕ) where
   unheaded (suc (suc (suc (suc (suc i))))) f l e = absurd l
 
 -- where a head was said to end, and where there is none
-pub head_ends : (id : ℕ) (b : List ℕ) (q : ℕ) → end_of b (head_syntax id) 0 ≡ At q → head_end id b ≡ q
+pub head_ends : (id : ℕ) (b : List ℕ) (q : ℕ) → end_of b (head_syntax id) 0 ≡ Ok q → head_end id b ≡ q
 unfolding head_end end_of read
 head_ends id b q e = go (read_body (8 * length b) 0 (head_syntax id) (bits_of b)) e
   where
-    go : (x : Parse (List Field)) → made (8 * length b) (λ ts q. At q) Refused x ≡ At q → made (8 * length b) (λ ts q. q) (λ f. 0) x ≡ q
+    go : (x : Parse (List Field)) → made (8 * length b) (λ ts q. Ok q) Err x ≡ Ok q → made (8 * length b) (λ ts q. q) (λ f. 0) x ≡ q
     go (got ts rest) w = cc
     go (refused u v z) w = let o : ◌≡◌ {A = ℕ} 0 1 = cc in absurd (omega arith)
 
@@ -97,25 +97,36 @@ no_head_end id b h = go (layout id) h
     go (many x m s) h = absurd (h tt)
     go opaque h = omega (arith, length_bits b)
 
-pub no_header : (b : List ℕ) (id : ℕ) → IsList (layout id) → (id ≡ 4 → ⊥) → At 0 ≡ end_of b (head_syntax id) 0
+pub no_header : (b : List ℕ) (id : ℕ) → IsList (layout id) → (id ≡ 4 → ⊥) → Ok 0 ≡ end_of b (head_syntax id) 0
 unfolding end_of read read_body
 no_header b id l h = go id l h
   where
     z : 0 ≡ 8 * length b - length (bits_of b)
     z = omega (arith, length_bits b)
 
-    go : (i : ℕ) → IsList (layout i) → (i ≡ 4 → ⊥) → At 0 ≡ end_of b (head_syntax i) 0
-    go zero l h = ap At z
-    go (suc zero) l h = ap At z
+    go : (i : ℕ) → IsList (layout i) → (i ≡ 4 → ⊥) → Ok 0 ≡ end_of b (head_syntax i) 0
+    go zero l h = ap Ok z
+    go (suc zero) l h = ap Ok z
     go (suc (suc zero)) l h = absurd l
-    go (suc (suc (suc zero))) l h = ap At z
+    go (suc (suc (suc zero))) l h = ap Ok z
     go (suc (suc (suc (suc zero)))) l h = absurd (h refl)
     go (suc (suc (suc (suc (suc i))))) l h = absurd l
 
 -- ---- what is made of a body's places
 
-module _ {A : Type 0} (i : ℕ) (found : ℕ → ℕ → ℕ → A) (fail : Refusal → A) (b : List ℕ) where
-  pub seek_over : (id : ℕ) → 4096 < length b → fail (refuse 21 (length b) 4096) ≡ seek b i found fail (body_starts id b)
+-- where the one entry of a body that is no list starts, by the index that is asked for
+abbrev pub sole_place : ℕ → Option ℕ
+sole_place i = slice_get (0 ∷ []) i
+
+pub sole_first : (i : ℕ) → i ≡ 0 → Some 0 ≡ sole_place i
+sole_first i e = rw e refl
+
+pub sole_none : (i : ℕ) → (i ≡ 0 → ⊥) → None ≡ sole_place i
+sole_none zero n = absurd (n refl)
+sole_none (suc i) n = refl
+
+module _ {A : Type 0} (i : ℕ) (found : ℕ → Option ℕ → ℕ → A) (fail : Refusal → A) (b : List ℕ) where
+  pub seek_over : (id : ℕ) → 4096 < length b → fail (refuse BodyTooLong (length b) 4096) ≡ seek b i found fail (body_starts id b)
   unfolding body_starts seek
   seek_over id h = rw (lt-leb (length b) 4096 h)
 
@@ -123,41 +134,40 @@ module _ {A : Type 0} (i : ℕ) (found : ℕ → ℕ → ℕ → A) (fail : Refu
   unfolding body_starts
   under id h = rw (le-leb (length b) 4096 h)
 
-  pub seek_list : {x : A} (id q : ℕ) → length b ≤ 4096 → IsList (layout id) → end_of b (head_syntax id) 0 ≡ At q
+  pub seek_list : {x : A} (id q : ℕ) → length b ≤ 4096 → IsList (layout id) → end_of b (head_syntax id) 0 ≡ Ok q
       → x ≡ seek b i found fail (starts (8 * length b) (least_bits id) (entry_syntax id) (8 * length b - q) (drop q (bits_of b))) → x ≡ seek b i found fail (body_starts id b)
   seek_list id q h l e w = rw (under id h, (headed b id q l e).starts) w
 
-  pub seek_unheaded : {f g : Refusal} {r : EntryEnd} (id : ℕ) → length b ≤ 4096 → IsList (layout id) → r ≡ end_of b (head_syntax id) 0 → r ≡ Refused f → g ≡ end_refusal r
-      → fail g ≡ seek b i found fail (body_starts id b)
-  unfolding seek end_refusal
-  seek_unheaded {f} {g} id h l e m w = rw (under id h, unheaded b id f l (sym e ∙ m)) (ap fail (w ∙ ap end_refusal m))
+  pub seek_unheaded : {f : Refusal} {r : Result ℕ Refusal} (id : ℕ) → length b ≤ 4096 → IsList (layout id) → r ≡ end_of b (head_syntax id) 0 → r ≡ Err f
+      → fail f ≡ seek b i found fail (body_starts id b)
+  unfolding seek
+  seek_unheaded {f} id h l e m = rw (under id h, unheaded b id f l (sym e ∙ m))
 
   -- id 2: read or refused; ids from 5 on: one entry, that ends with the body
-  at_first : (j : ℕ) → found 1 0 (8 * length b) ≡ found 1 (get_or (0 ∷ []) j 0) (8 * length b - 0)
-  at_first zero = ap (found 1 0) (omega arith)
-  at_first (suc j) = ap (found 1 0) (omega arith)
+  at_first : (j : ℕ) → found 1 (sole_place j) (8 * length b) ≡ found 1 (slice_get (0 ∷ []) j) (8 * length b - 0)
+  at_first j = ap (found 1 (sole_place j)) (omega arith)
 
-  pub seek_sole : (q : ℕ) → length b ≤ 4096 → end_of b association 0 ≡ At q → found 1 0 (8 * length b) ≡ seek b i found fail (body_starts 2 b)
+  pub seek_sole : (q : ℕ) → length b ≤ 4096 → end_of b association 0 ≡ Ok q → found 1 (sole_place i) (8 * length b) ≡ seek b i found fail (body_starts 2 b)
   unfolding seek starts_as end_of read
   seek_sole q h e = rw (under 2 h) (go (read_body (8 * length b) 0 association (bits_of b)) e)
     where
-      go : (x : Parse (List Field)) → made (8 * length b) (λ ts q. At q) Refused x ≡ At q → found 1 0 (8 * length b) ≡ seek b i found fail (and_then x (λ ts rest. got (0 ∷ []) []))
+      go : (x : Parse (List Field)) → made (8 * length b) (λ ts q. Ok q) Err x ≡ Ok q → found 1 (sole_place i) (8 * length b) ≡ seek b i found fail (and_then x (λ ts rest. got (0 ∷ []) []))
       go (got ts rest) z = at_first i
       go (refused u v w) z = let o : ◌≡◌ {A = ℕ} 0 1 = cc in absurd (omega arith)
 
-  pub seek_not : (f : Refusal) → length b ≤ 4096 → end_of b association 0 ≡ Refused f → fail f ≡ seek b i found fail (body_starts 2 b)
+  pub seek_not : (f : Refusal) → length b ≤ 4096 → end_of b association 0 ≡ Err f → fail f ≡ seek b i found fail (body_starts 2 b)
   unfolding seek starts_as end_of read
   seek_not f h e = rw (under 2 h) (go (read_body (8 * length b) 0 association (bits_of b)) e)
     where
-      go : (x : Parse (List Field)) → made (8 * length b) (λ ts q. At q) Refused x ≡ Refused f → fail f ≡ seek b i found fail (and_then x (λ ts rest. got (0 ∷ []) []))
+      go : (x : Parse (List Field)) → made (8 * length b) (λ ts q. Ok q) Err x ≡ Err f → fail f ≡ seek b i found fail (and_then x (λ ts rest. got (0 ∷ []) []))
       go (got ts rest) z = let o : ◌≡◌ {A = ℕ} 0 1 = cc in absurd (omega arith)
       go (refused u v w) z = let y : refuse u v w ≡ f = cc in ap fail (sym y)
 
-  pub seek_raw : (id : ℕ) → length b ≤ 4096 → (IsList (layout id) → ⊥) → (id ≡ 2 → ⊥) → found 1 0 (8 * length b) ≡ seek b i found fail (body_starts id b)
+  pub seek_raw : (id : ℕ) → length b ≤ 4096 → (IsList (layout id) → ⊥) → (id ≡ 2 → ⊥) → found 1 (sole_place i) (8 * length b) ≡ seek b i found fail (body_starts id b)
   unfolding seek starts_as
   seek_raw id h l n = rw (under id h) (go id l n)
     where
-      go : (k : ℕ) → (IsList (layout k) → ⊥) → (k ≡ 2 → ⊥) → found 1 0 (8 * length b) ≡ seek b i found fail (starts_as (layout k) b)
+      go : (k : ℕ) → (IsList (layout k) → ⊥) → (k ≡ 2 → ⊥) → found 1 (sole_place i) (8 * length b) ≡ seek b i found fail (starts_as (layout k) b)
       go zero l n = absurd (l tt)
       go (suc zero) l n = absurd (l tt)
       go (suc (suc zero)) l n = absurd (n refl)

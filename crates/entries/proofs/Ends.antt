@@ -5,28 +5,41 @@ use mathlib.Core.Path.{◌≡◌, refl, sym, ap, ◌∙◌}
 use mathlib.Core.Bool.{false}
 use mathlib.Core.List.{List}
 use native.Mathlib.Omega.{arith}
+use Rattle.std.specs.Prelude.{Result, Ok, Err}
 use Rattle.format.specs.Syntax.{Syntax, Field}
 use Rattle.format.specs.Whole.{layout}
-use Rattle.format.specs.At.{read}
+use Rattle.format.specs.At.{read, found_at, end_of}
 use Rattle.format.specs.declared.Refusal.{Refusal}
-use Rattle.format.specs.declared.EntryEnd.{EntryEnd}
-use Rattle.format.specs.declared.EntryEnd.TheVariants.{Refused}
+use Rattle.format.specs.declared.Found.{Found}
 use Rattle.format.proofs.Good.{Fine, Least}
 use Rattle.format.proofs.FineTables.{fine_position, least_position, fine_fragment, least_fragment, fine_beamhopping, least_beamhopping, fine_position3, least_position3}
 use Rattle.format.proofs.ReadLaws.{through}
-use Rattle.entries.specs.Entries.{IsList, entry_syntax, least_bits, end_refusal, walk_refusal}
-use Rattle.entries.specs.declared.Walked.{Walked}
-use Rattle.entries.specs.declared.Walked.TheVariants as walked
+use Rattle.entries.specs.Entries.{IsList, entry_syntax, least_bits, next_of}
 
--- an answer of a reader, of either kind; after: what is made of it
-module _ {A B : Type 0} {r : B} (b : List ℕ) (s : Syntax) (p : ℕ) (found : List Field → ℕ → A) (fail : Refusal → A) (ok : List Field → ℕ → B) (bad : Refusal → B) (after : B → A)
-    (one : (ts : List Field) (q : ℕ) → after (ok ts q) ≡ found ts q) (two : (f : Refusal) → after (bad f) ≡ fail f) where
-  pub given : {x : B} {e : A} → r ≡ read b 0 s p ok bad → r ≡ x → e ≡ after x → e ≡ read b 0 s p found fail
-  given h m q = q ∙ ap after (sym m ∙ h) ∙ through b 0 s p found fail ok bad after one two
+-- what is made of what a reader found, as reading by the description makes it
+module _ {A B : Type 0} {r : Result (Found A) Refusal} (b : List ℕ) (s : Syntax) (p : ℕ) (of : List Field → A) (make : A → ℕ → Result B Refusal)
+    (h : r ≡ read b 0 s p (λ ts q. found_at (of ts) q) Err) where
+  after : Result (Found A) Refusal → Result B Refusal
+  after (Ok x) = make x.value x.next
+  after (Err f) = Err f
 
-  -- pick: the refusal that is taken out of it
-  pub given_no : {f g : Refusal} (pick : B → Refusal) → ((x : Refusal) → pick (bad x) ≡ x) → r ≡ read b 0 s p ok bad → r ≡ bad f → g ≡ pick r → fail g ≡ read b 0 s p found fail
-  given_no {f} pick three h m w = ap fail (w ∙ ap pick m ∙ three f) ∙ given h m (sym (two f))
+  whole : after r ≡ read b 0 s p (λ ts q. make (of ts) q) Err
+  unfolding after
+  whole = ap after h ∙ through b 0 s p (λ ts q. make (of ts) q) Err (λ ts q. found_at (of ts) q) Err after (λ ts q. refl) (λ f. refl)
+
+  pub made_found : {x : Found A} → r ≡ Ok x → make x.value x.next ≡ read b 0 s p (λ ts q. make (of ts) q) Err
+  unfolding after
+  made_found m = sym (ap after m) ∙ whole
+
+  pub made_refused : {f : Refusal} → r ≡ Err f → Err f ≡ read b 0 s p (λ ts q. make (of ts) q) Err
+  unfolding after
+  made_refused m = sym (ap after m) ∙ whole
+
+-- the place behind it
+pub ends : {A : Type 0} {r : Result (Found A) Refusal} (b : List ℕ) (s : Syntax) (p : ℕ) (of : List Field → A) → r ≡ read b 0 s p (λ ts q. found_at (of ts) q) Err
+    → next_of r ≡ end_of b s p
+unfolding end_of
+ends b s p of h = ap next_of h ∙ through b 0 s p (λ ts q. Ok q) Err (λ ts q. found_at (of ts) q) Err next_of (λ ts q. refl) (λ f. refl)
 
 -- ---- lists
 
@@ -73,12 +86,3 @@ is_list (suc (suc zero)) h n = absurd (n refl)
 is_list (suc (suc (suc zero))) h n = tt
 is_list (suc (suc (suc (suc zero)))) h n = tt
 is_list (suc (suc (suc (suc (suc i))))) h n = absurd (omega arith)
-
--- a refusal that was taken out of an answer is the answer's
-pub told : {r : EntryEnd} {f g : Refusal} → r ≡ Refused f → g ≡ end_refusal r → r ≡ Refused g
-unfolding end_refusal
-told m w = m ∙ ap Refused (sym (w ∙ ap end_refusal m))
-
-pub walk_told : {r : Walked} {f g : Refusal} → r ≡ walked.Refused f → g ≡ walk_refusal r → r ≡ walked.Refused g
-unfolding walk_refusal
-walk_told m w = m ∙ ap walked.Refused (sym (w ∙ ap walk_refusal m))

@@ -1,15 +1,12 @@
 -- What a table's layout says of its entries, and what is made of an answer.
 -- Assumes nothing: these are definitions.
-use Rattle.std.specs.Prelude.{ℕ, ◌*◌, ◌%◌, ◌≤◌, ◌≡◌, List, length}
-use Rattle.format.specs.Refusals.{refuse}
+use Rattle.std.specs.Prelude.{ℕ, ◌≤◌, List, length, Option, Result, Ok, Err}
 use Rattle.format.specs.Syntax.{Syntax, end}
 use Rattle.format.specs.Whole.{Layout, sole, many, opaque, layout}
-use Rattle.format.specs.At.{read}
+use Rattle.format.specs.At.{read, Starts}
 use Rattle.format.specs.declared.Refusal.{Refusal}
-use Rattle.format.specs.declared.EntryEnd.{EntryEnd}
-use Rattle.format.specs.declared.EntryEnd.TheVariants.{At, Refused}
-use Rattle.entries.specs.declared.Walked.{Walked}
-use Rattle.entries.specs.declared.Walked.TheVariants as walked
+use Rattle.format.specs.declared.Found.{Found}
+use Rattle.entries.specs.declared.Walk.{Walk}
 
 -- a body that is a list of entries
 abbrev pub IsList : Layout → Type 0
@@ -46,26 +43,25 @@ head_syntax id = head_in (layout id)
 unfoldable pub head_end : ℕ → List ℕ → ℕ
 head_end id b = read b 0 (head_syntax id) 0 (λ ts q. q) (λ f. 0)
 
--- the refusal in an answer; zeros where there is none
-unfoldable pub end_refusal : EntryEnd → Refusal
-end_refusal (At n) = refuse 0 0 0
-end_refusal (Refused f) = f
+-- of what was read, the place behind it
+abbrev pub next_of : {A : Type 0} → Result (Found A) Refusal → Result ℕ Refusal
+next_of (Ok x) = Ok x.next
+next_of (Err f) = Err f
 
-unfoldable pub walk_refusal : Walked → Refusal
-walk_refusal (walked.Entries n p e) = refuse 0 0 0
-walk_refusal (walked.Refused f) = f
+-- a walk over entries: how many there are, where the one at an index starts, and where the reading ended
+abbrev pub walked : ℕ → Option ℕ → ℕ → Result Walk Refusal
+walked n p e = Ok (record { count = n; place = p; end = e })
 
--- what holds of a walk that began at a place q: at the place p that it hands out an entry can be read, and it ended no
+-- what holds of a walk that began at a place q: at the place that it hands out an entry can be read, and it ended no
 -- earlier than q
-pub record Placed (b : List ℕ) (q p e : ℕ) : Type 0 where
+pub record Placed (b : List ℕ) (q : ℕ) (w : Walk) : Type 0 where
   pub short : length b ≤ 4096
-  pub within : p ≤ 8 * length b
-  pub byte : p % 8 ≡ 0
-  pub on : q ≤ e
+  pub starts : Starts b w.place
+  pub on : q ≤ w.end
 
-abbrev pub SureIn : List ℕ → ℕ → Walked → Type 0
-SureIn b q (walked.Entries n p e) = Placed b q p e
-SureIn b q (walked.Refused f) = Unit {0}
+abbrev pub SureIn : List ℕ → ℕ → Result Walk Refusal → Type 0
+SureIn b q (Ok w) = Placed b q w
+SureIn b q (Err f) = Unit {0}
 
-pub record Sure (b : List ℕ) (q : ℕ) (r : Walked) : Type 0 where
+pub record Sure (b : List ℕ) (q : ℕ) (r : Result Walk Refusal) : Type 0 where
   pub to : SureIn b q r

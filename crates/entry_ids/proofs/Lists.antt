@@ -1,19 +1,17 @@
--- The test for an id, one more id behind those that are there, and copies in a buffer.
+-- The test for an id, and one more id behind those that are there.
 -- Assumes nothing.
-use Prim.Native.Nat.{ℕ, suc, ◌+◌, ◌<◌, ◌≤◌}
-use mathlib.Core.Path.{◌≡◌, refl, sym, ap, ◌∙◌, subst}
+use Prim.Native.Nat.{ℕ, ◌+◌, ◌≤◌}
+use mathlib.Core.Path.{◌≡◌, refl, sym, ap, ◌∙◌}
 use mathlib.Core.Bool.{Bool, true, false, cond, ◌||◌}
 use mathlib.Core.List.{List, [], ◌∷◌, ◌++◌, append-nil}
-use native.Mathlib.Numerals.{add-one}
-use native.Mathlib.Nat.{zero-add}
 use native.Mathlib.Omega.{arith}
 use lib.Dec.{eqb}
-use lib.ListN.{length, take, drop, get_or, set, length-set}
-use lib.Seq.{take-suc, take-suc-set, length-take-le, split_at, paste, paste-suc}
+use lib.ListN.{length, length-append}
 use borrow.Author.Tests.{eqb-true, eqb-false, eq-eqb, ne_eqb}
-use Rattle.format.specs.Digits.{splice}
+use Rattle.std.specs.Prelude.{nat_eq}
+use Rattle.std.specs.List.{list_any}
 use Rattle.format.specs.Added.{without, first_of_each}
-use Rattle.entry_ids.specs.Steps.{is_in, join, Joined}
+use Rattle.entry_ids.specs.Steps.{is_in, join}
 
 -- ---- the test
 
@@ -23,25 +21,36 @@ module _ (x : ℕ) where
   is_in_append [] k = refl
   is_in_append (y ∷ l) k = go (eqb x y) (is_in_append l k)
     where
-      go : (t : Bool) → is_in x (l ++ k) ≡ (is_in x l || is_in x k) → (t || is_in x (l ++ k)) ≡ ((t || is_in x l) || is_in x k)
+      go : (t : Bool) → is_in x (l ++ k) ≡ (is_in x l || is_in x k)
+          → (t || is_in x (l ++ k)) ≡ ((t || is_in x l) || is_in x k)
       go true e = refl
       go false e = e
 
-  -- one more that is another, and one that is it
-  pub is_in_more : (l : List ℕ) (i : ℕ) → i < length l → is_in x (take i l) ≡ false → (get_or l i 0 ≡ x → ⊥) → is_in x (take (i + 1) l) ≡ false
-  unfolding is_in
-  is_in_more l i h a e =
-      rw (add-one i, take-suc l i 0 h, is_in_append (take i l) (get_or l i 0 ∷ []), a, ne_eqb x (get_or l i 0) (λ z. e (sym z)))
+-- as the library's search finds it
+equal_either : (x y : ℕ) → nat_eq y x ≡ eqb x y
+equal_either x y = go (eqb x y) refl
+  where
+    go : (t : Bool) → eqb x y ≡ t → nat_eq y x ≡ t
+    go true e = eq-eqb y x (sym (eqb-true x y e))
+    go false e = ne_eqb y x (λ z. eqb-false x y e (sym z))
 
-  pub is_in_met : (l : List ℕ) (i : ℕ) → i < length l → get_or l i 0 ≡ x → is_in x l ≡ true
-  unfolding is_in
-  is_in_met l i h e =
-      ap (is_in x) (split_at l i 0 h) ∙ is_in_append (take i l) (get_or l i 0 ∷ drop (suc i) l)
-      ∙ rw (eq-eqb x (get_or l i 0) (sym e)) (or_true (is_in x (take i l)))
-    where
-      or_true : (t : Bool) → (t || true) ≡ true
-      or_true true = refl
-      or_true false = refl
+contains_is : (x : ℕ) (l : List ℕ) → list_any (λ y. nat_eq y x) l ≡ is_in x l
+unfolding is_in
+contains_is x [] = refl
+contains_is x (y ∷ l) = rw (equal_either x y, contains_is x l)
+
+-- what the library's search says of a list of ids, and of that the ids with one more
+module _ {l m : List ℕ} {there : Bool} (x : ℕ) (e : there ≡ list_any (λ y. nat_eq y x) m) (same : m ≡ l) where
+  told : there ≡ is_in x l
+  told = e ∙ contains_is x m ∙ ap (is_in x) same
+
+  pub joined_new : {k : List ℕ} → there ≡ false → k ≡ l ++ x ∷ [] → k ≡ join l x
+  unfolding join
+  joined_new h w = rw (sym told ∙ h) w
+
+  pub joined_old : there ≡ true → l ≡ join l x
+  unfolding join
+  joined_old h = rw (sym told ∙ h) refl
 
 -- ---- one more id behind others: it is put down unless it is there
 
@@ -61,7 +70,8 @@ unfolding is_in without
 is_in_without x y n [] = refl
 is_in_without x y n (z ∷ l) = go (eqb y z) refl (is_in_without x y n l)
   where
-    go : (t : Bool) → eqb y z ≡ t → is_in x (without y l) ≡ is_in x l → is_in x (cond t (without y l) (z ∷ without y l)) ≡ (eqb x z || is_in x l)
+    go : (t : Bool) → eqb y z ≡ t → is_in x (without y l) ≡ is_in x l
+        → is_in x (cond t (without y l) (z ∷ without y l)) ≡ (eqb x z || is_in x l)
     go true e ih = rw (ne_eqb x z (λ q. n (q ∙ sym (eqb-true y z e)))) ih
     go false e ih = rw ih
 
@@ -87,30 +97,16 @@ unfolding first_of_each join is_in without
 first_last [] x = refl
 first_last (y ∷ ids) x = ap (λ (m : List ℕ). y ∷ without y m) (first_last ids x) ∙ go (eqb y x) refl
   where
-    go : (t : Bool) → eqb y x ≡ t → y ∷ without y (join (first_of_each ids) x) ≡ join (y ∷ without y (first_of_each ids)) x
+    go : (t : Bool) → eqb y x ≡ t
+        → y ∷ without y (join (first_of_each ids) x) ≡ join (y ∷ without y (first_of_each ids)) x
     go true e = join_same y x (first_of_each ids) (eqb-true y x e)
     go false e = join_other y x (first_of_each ids) (eqb-false y x e)
 
--- ---- in a buffer
-
-module _ (ids : List ℕ) (count x : ℕ) (h : count < length ids) where
-  pub joined_old : is_in x (take count ids) ≡ true → Joined ids count x count ids
-  unfolding join
-  joined_old e = record { room = refl; first = rw e; most = omega arith }
-
-  pub joined_new : is_in x (take count ids) ≡ false → Joined ids count x (count + 1) (set ids count x)
-  unfolding join
-  joined_new e = record {
-    room = length-set ids count x;
-    first = rw (e, add-one count) (take-suc-set ids count x h);
-    most = omega arith;
-  }
-
--- a copy of the first elements of a list to the start of another: one more of them, and all
-pub paste_step : (out ids : List ℕ) (i : ℕ) → i < length out → i < length ids → set (paste out 0 ids i) i (get_or ids i 0) ≡ paste out 0 ids (i + 1)
-paste_step out ids i h k =
-    rw (add-one i) (subst (λ (j : ℕ). set (paste out 0 ids i) j (get_or ids i 0) ≡ paste out 0 ids (suc i)) (zero-add i) (paste-suc out 0 ids i 0 (omega arith) k))
-
-pub paste_splice : (out ids : List ℕ) (n : ℕ) → n ≤ length ids → paste out 0 ids n ≡ splice out 0 (take n ids)
-unfolding splice
-paste_splice out ids n h = rw (length-take-le n ids h)
+-- at most one more
+pub join_most : (l : List ℕ) (x : ℕ) → length (join l x) ≤ length l + 1
+unfolding join
+join_most l x = go (is_in x l)
+  where
+    go : (t : Bool) → length (cond t l (l ++ x ∷ [])) ≤ length l + 1
+    go true = omega arith
+    go false = omega (arith, length-append l (x ∷ []))

@@ -2,12 +2,11 @@
 -- Assumes nothing.
 use mathlib.Core.Path.{◌≡◌, refl, sym, ap, ◌∙◌}
 use mathlib.Core.List.{List, [], ◌∷◌, ◌++◌, append-nil, append_assoc, map}
-use Prim.Native.Nat.{ℕ, zero, suc, ◌+◌, ◌*◌, ◌-◌, ◌%◌, ◌≤◌, ◌<◌}
+use Prim.Native.Nat.{ℕ, zero, suc, ◌*◌, ◌-◌, ◌%◌, ◌≤◌, ◌<◌}
 use native.Mathlib.Omega.{arith}
 use lib.Dec.{leb}
 use lib.ListN.{length, take, drop}
-use lib.Seq.{length-take-le}
-use borrow.Author.Tests.{le-leb}
+use Rattle.std.specs.Prelude.{Ok, Err}
 use Rattle.format.specs.Digits.{bits_of, value, value_at}
 use Rattle.format.specs.Syntax.{Name, Syntax, unsigned, field, Field, num, Parse, got, refused, push}
 use Rattle.format.specs.Tables.{position, fragment, beamhopping, position3}
@@ -15,30 +14,30 @@ use Rattle.format.specs.Body.{read_body}
 use Rattle.format.specs.Whole.{layout, entries}
 use Rattle.format.specs.ByName.{first_by, the}
 use Rattle.format.specs.At.{end_of}
-use Rattle.format.specs.Calls.{answer}
 use Rattle.format.specs.Added.{id_name, first_of_each}
 use Rattle.format.specs.declared.Refusal.{Refusal}
-use Rattle.format.specs.declared.Answer.TheVariants as answers
-use Rattle.format.specs.declared.EntryEnd.TheVariants.{At, Refused}
 use Rattle.format.proofs.ParseLaws.{cond_got, push_got}
 use Rattle.format.proofs.WalkLaws.{Met, read_on, read_no, turn_on as turns-on, turn_no as turns-no, turn_end as turns-end}
 use Rattle.entries.specs.Entries.{IsList, entry_syntax, least_bits}
 use Rattle.entries.proofs.Ends.{fine_entry, least_entry, byte_entry}
-use Rattle.entry_ids.specs.Steps.{id_bits, join, gather, Joined, Gathered}
-use Rattle.entry_ids.proofs.Lists.{first_last}
+use Rattle.entry_ids.specs.Steps.{id_bits, join, gather, Gathered}
+use Rattle.entry_ids.proofs.Lists.{first_last, join_most}
 
 -- ---- an entry's id
 
-first_field : (nm : Name) (w : ℕ) (k : ℕ → Syntax) (n : ℕ) (bs : List ℕ) {ts : List Field} {rest : List ℕ} → read_body n 0 (field unsigned nm w k) bs ≡ got ts rest
+first_field : (nm : Name) (w : ℕ) (k : ℕ → Syntax) (n : ℕ) (bs : List ℕ) {ts : List Field} {rest : List ℕ}
+    → read_body n 0 (field unsigned nm w k) bs ≡ got ts rest
     → (more : List Field) × (ts ≡ num unsigned nm w (value 2 (take w bs)) ∷ more)
 unfolding read_body
 first_field nm w k n bs e =
     let v : ℕ = value 2 (take w bs) in
-    let o = push_got (num unsigned nm w v) (read_body n 0 (k v) (drop w bs)) (cond_got (leb w (length bs)) _ _ _ _ e).1 in
+    let more = (cond_got (leb w (length bs)) _ _ _ _ e).1 in
+    let o = push_got (num unsigned nm w v) (read_body n 0 (k v) (drop w bs)) more in
     (o.0, o.2)
 
 -- an entry starts with its id
-id_at_lem : (id : ℕ) (b : List ℕ) (p n : ℕ) {ts : List Field} {rest : List ℕ} → IsList (layout id) → read_body n 0 (entry_syntax id) (drop p (bits_of b)) ≡ got ts rest
+id_at_lem : (id : ℕ) (b : List ℕ) (p n : ℕ) {ts : List Field} {rest : List ℕ} → IsList (layout id)
+    → read_body n 0 (entry_syntax id) (drop p (bits_of b)) ≡ got ts rest
     → the (id_name id) ts ≡ value_at b p (id_bits id)
 unfolding position fragment beamhopping position3 first_by value_at
 id_at_lem zero b p n l e = rw (first_field _ _ _ _ _ e).1
@@ -59,7 +58,8 @@ word_entry (suc (suc (suc (suc (suc i))))) l = absurd l
 
 -- ---- one turn
 
-gather_push : (id : ℕ) (l : List ℕ) (ts : List Field) (p : Parse (List (List Field))) → gather id l (push ts p) ≡ gather id (l ++ the (id_name id) ts ∷ []) p
+gather_push : (id : ℕ) (l : List ℕ) (ts : List Field) (p : Parse (List (List Field)))
+    → gather id l (push ts p) ≡ gather id (l ++ the (id_name id) ts ∷ []) p
 unfolding gather
 gather_push id l ts (got es rest) = rw (append_assoc l (the (id_name id) ts ∷ []) (map (the (id_name id)) es))
 gather_push id l ts (refused x y z) = refl
@@ -72,22 +72,27 @@ module _ (id : ℕ) (b : List ℕ) where
   abbrev Entry : IsList (layout id) → ℕ → ℕ → Type 0
   Entry i p q = Met (least_bits id) (entry_syntax id) (fine_entry id i) (least_entry id i) (byte_entry id i) b p q
 
-  entry : (i : IsList (layout id)) (p q : ℕ) → p ≤ n → p % 8 ≡ 0 → end_of b (entry_syntax id) p ≡ At q → Entry i p q
-  entry i p q h a e = read_on (least_bits id) (entry_syntax id) (fine_entry id i) (least_entry id i) (byte_entry id i) b p q h a e
+  entry : (i : IsList (layout id)) (p q : ℕ) → p ≤ n → p % 8 ≡ 0 → end_of b (entry_syntax id) p ≡ Ok q → Entry i p q
+  entry i p q h a e =
+      read_on (least_bits id) (entry_syntax id) (fine_entry id i) (least_entry id i) (byte_entry id i) b p q h a e
 
   -- the walk that the loop follows, from a place on, and the ids that it gives behind those of the entries before it
   abbrev pub ids_from : ℕ → ℕ → List ℕ → Parse (List ℕ)
   ids_from turns p l = gather id l (entries n (least_bits id) (entry_syntax id) turns (drop p (bits_of b)))
 
-  turn_on : (turns p : ℕ) (l : List ℕ) {q : ℕ} (i : IsList (layout id)) → p ≤ n → least_bits id ≤ n - p → Entry i p q → ids_from (suc turns) p l ≡ ids_from turns q (l ++ value_at b p (id_bits id) ∷ [])
+  turn_on : (turns p : ℕ) (l : List ℕ) {q : ℕ} (i : IsList (layout id)) → p ≤ n → least_bits id ≤ n - p → Entry i p q
+      → ids_from (suc turns) p l ≡ ids_from turns q (l ++ value_at b p (id_bits id) ∷ [])
   turn_on turns p l {q} i h m x =
       rw (turns-on (λ p ts. ts) (least_bits id) (entry_syntax id) b turns p x.ts (drop q (bits_of b)) h m x.reads)
-      (gather_push id l x.ts (entries n (least_bits id) (entry_syntax id) turns (drop q (bits_of b))) ∙ rw (id_at_lem id b p n i x.reads))
+      (gather_push id l x.ts (entries n (least_bits id) (entry_syntax id) turns (drop q (bits_of b)))
+      ∙ rw (id_at_lem id b p n i x.reads))
 
-  turn_no : (turns p : ℕ) (l : List ℕ) (x : Refusal) → least_bits id ≤ n - p → end_of b (entry_syntax id) p ≡ Refused x
-      → ids_from (suc turns) p l ≡ refused x.number x.need x.have
+  turn_no : (turns p : ℕ) (l : List ℕ) (x : Refusal) → least_bits id ≤ n - p → end_of b (entry_syntax id) p ≡ Err x
+      → ids_from (suc turns) p l ≡ refused x.fault x.need x.have
   unfolding gather
-  turn_no turns p l x m e = rw (turns-no (λ p ts. ts) (least_bits id) (entry_syntax id) b turns p x.number x.need x.have m (read_no b (entry_syntax id) p x e))
+  turn_no turns p l x m e =
+      let r = read_no b (entry_syntax id) p x e in
+      rw (turns-no (λ p ts. ts) (least_bits id) (entry_syntax id) b turns p x.fault x.need x.have m r)
 
   turn_end : (turns p : ℕ) (l : List ℕ) → n - p < least_bits id → ids_from turns p l ≡ got (first_of_each l) []
   unfolding gather
@@ -97,33 +102,31 @@ module _ (id : ℕ) (b : List ℕ) where
 
   -- what it keeps at a place: of the ids passed each where it first stands is gathered; the others are those of the
   -- walk from here on
-  pub record Kept (start at count : ℕ) (kept : List ℕ) : Type 0 where
+  pub record Kept (start at : ℕ) (kept : List ℕ) : Type 0 where
     pub within : at ≤ n
     pub byte : at % 8 ≡ 0
-    pub few : 32 * count ≤ at
-    pub room : 1024 ≤ length kept
+    pub few : 32 * length kept ≤ at
     pub turns : ℕ
     pub enough : n - at ≤ turns
     pub passed : List ℕ
-    pub first : take count kept ≡ first_of_each passed
+    pub first : kept ≡ first_of_each passed
     pub whole : ids_from (n - start) start [] ≡ ids_from turns at passed
 
-  pub kept_first : (start : ℕ) (kept : List ℕ) → start ≤ n → start % 8 ≡ 0 → 1024 ≤ length kept → Kept start start 0 kept
+  pub kept_first : (start : ℕ) (kept : List ℕ) → start ≤ n → start % 8 ≡ 0 → kept ≡ [] → Kept start start kept
   unfolding first_of_each
-  kept_first start kept h a m = record {
+  kept_first start kept h a m = rw m (record {
     within = h;
     byte = a;
     few = omega arith;
-    room = m;
     turns = n - start;
     enough = omega arith;
     passed = [];
     first = refl;
     whole = refl;
-  }
+  })
 
-  module _ (i : IsList (layout id)) (start at count : ℕ) (kept : List ℕ) (k : Kept start at count kept) where
-    -- there is a turn left, and a place for one more id
+  module _ (i : IsList (layout id)) (start at : ℕ) (kept : List ℕ) (k : Kept start at kept) where
+    -- there is a turn left
     one_left : least_bits id ≤ n - at → (t : ℕ) × (k.turns ≡ suc t)
     one_left m = go k.turns (omega (arith, k.enough, word_entry id i))
       where
@@ -131,43 +134,35 @@ module _ (id : ℕ) (b : List ℕ) where
         go zero h = absurd (omega arith)
         go (suc u) h = (u, refl)
 
-    pub kept_room : least_bits id ≤ n - at → length b ≤ 4096 → count < length kept
-    kept_room m h = omega (arith, k.few, k.room, k.within, word_entry id i)
-
-    pub kept_word : least_bits id ≤ n - at → at + 32 ≤ n
-    kept_word m = omega (arith, k.within, word_entry id i)
-
-    pub kept_next : {v count' : ℕ} {kept' : List ℕ} (q : ℕ) → least_bits id ≤ n - at → end_of b (entry_syntax id) at ≡ At q → v ≡ value_at b at (id_bits id) → Joined kept count v count' kept'
-        → Kept start q count' kept'
-    kept_next {v} {count'} {kept'} q m e w j =
+    pub kept_next : {v : ℕ} {kept' : List ℕ} (q : ℕ) → least_bits id ≤ n - at → end_of b (entry_syntax id) at ≡ Ok q
+        → v ≡ value_at b at (id_bits id) → kept' ≡ join kept v
+        → Kept start q kept'
+    kept_next {v} {kept'} q m e w j =
         let o = one_left m in
         let t = entry i at q k.within k.byte e in
         record {
           within = t.within;
           byte = t.byte;
-          few = omega (arith, t.on, k.few, j.most, word_entry id i);
-          room = omega (arith, k.room, j.room);
+          few = omega (arith, t.on, k.few, ap length j, join_most kept v, word_entry id i);
           turns = o.0;
           enough = omega (arith, t.on, k.enough, o.1, word_entry id i);
           passed = k.passed ++ v ∷ [];
-          first = j.first ∙ ap (λ (l : List ℕ). join l v) k.first ∙ sym (first_last k.passed v);
-          whole = k.whole ∙ ap (λ (u : ℕ). ids_from u at k.passed) o.1 ∙ turn_on o.0 at k.passed i k.within m t ∙ ap (λ (u : ℕ). ids_from o.0 q (k.passed ++ u ∷ [])) (sym w);
+          first = j ∙ ap (λ (l : List ℕ). join l v) k.first ∙ sym (first_last k.passed v);
+          whole =
+              k.whole ∙ ap (λ (u : ℕ). ids_from u at k.passed) o.1 ∙ turn_on o.0 at k.passed i k.within m t
+              ∙ ap (λ (u : ℕ). ids_from o.0 q (k.passed ++ u ∷ [])) (sym w);
         }
 
     -- the loop comes nearer to the end
-    pub kept_less : (q : ℕ) → least_bits id ≤ n - at → end_of b (entry_syntax id) at ≡ At q → n - q < n - at
+    pub kept_less : (q : ℕ) → least_bits id ≤ n - at → end_of b (entry_syntax id) at ≡ Ok q → n - q < n - at
     kept_less q m e = let t = entry i at q k.within k.byte e in omega (arith, t.on, t.within, word_entry id i)
 
     -- what the loop hands back
-    pub kept_over : length b ≤ 4096 → n - at < least_bits id → Gathered id (ids_from (n - start) start []) (answers.Done id count) kept
-    unfolding answer
-    kept_over h m =
-        let s : count ≤ length kept = omega (arith, k.few, k.within, k.room) in
-        let c : length (first_of_each k.passed) ≡ count = ap length (sym k.first) ∙ length-take-le count kept s in
-        rw (k.whole, turn_end k.turns at k.passed m) (record { is = rw (c, le-leb count (length kept) s); front = rw c (s, k.first) })
+    pub kept_over : n - at < least_bits id → Gathered (ids_from (n - start) start []) (Ok (record { items = kept }))
+    kept_over m = record { is = k.whole ∙ turn_end k.turns at k.passed m ∙ ap (λ (l : List ℕ). got l []) (sym k.first) }
 
-    pub kept_stop : (x : Refusal) → least_bits id ≤ n - at → end_of b (entry_syntax id) at ≡ Refused x → Gathered id (ids_from (n - start) start []) (answers.Refused x) kept
-    unfolding answer
+    pub kept_stop : (x : Refusal) → least_bits id ≤ n - at → end_of b (entry_syntax id) at ≡ Err x
+        → Gathered (ids_from (n - start) start []) (Err x)
     kept_stop x m e =
         let o = one_left m in
-        rw (k.whole, o.1, turn_no o.0 at k.passed x m e) (record { is = refl; front = tt })
+        record { is = k.whole ∙ ap (λ (u : ℕ). ids_from u at k.passed) o.1 ∙ turn_no o.0 at k.passed x m e }

@@ -26,7 +26,8 @@ words_more b p (suc n) =
     rw (← e) (ap (λ (l : List ℕ). value_at b p 32 ∷ l) (words_more b (p + 32) n))
 
 -- one turn: the first i of n are in, the others 0
-pub put_word : (b l : List ℕ) (p i n v : ℕ) → i < n → l ≡ words_at b p i ++ replicate (n - i) 0 → v ≡ value_at b (p + 32 * i) 32
+pub put_word : (b l : List ℕ) (p i n v : ℕ) → i < n → l ≡ words_at b p i ++ replicate (n - i) 0
+    → v ≡ value_at b (p + 32 * i) 32
     → set l i v ≡ words_at b p (i + 1) ++ replicate (n - (i + 1)) 0
 put_word b l p i n v h e q =
     let f : n - i ≡ suc (n - (i + 1)) = omega arith in

@@ -1,6 +1,6 @@
 -- Table id 4: an ephemeris entry by its index within the part that holds the entries.
 -- Assumes nothing: these are definitions.
-use Rattle.std.specs.Prelude.{ℕ, ◌+◌, ◌*◌, ◌≡◌, Bool, true, cond, List, leb, ltb, length}
+use Rattle.std.specs.Prelude.{ℕ, ◌+◌, ◌*◌, ◌≡◌, Bool, true, cond, List, leb, ltb, length, Option, Some, None}
 use Rattle.format.specs.Digits.{value_at}
 use Rattle.format.specs.Syntax.{Syntax, Field, end, when}
 use Rattle.format.specs.Tables.{motion, acceleration}
@@ -9,12 +9,7 @@ use Rattle.format.specs.At.{read}
 use Rattle.bits.specs.Read.{Room}
 use Rattle.parts.specs.declared.Part.{Part}
 use Rattle.ephemeris.specs.declared.EphemerisAccel.{EphemerisAccel}
-use Rattle.ephemeris.specs.declared.MaybeEphemerisAccel.{MaybeEphemerisAccel}
-use Rattle.ephemeris.specs.declared.MaybeEphemerisAccel.TheVariants.{Some, None}
 use Rattle.ephemeris.specs.declared.EphemerisData.{EphemerisData}
-use Rattle.ephemeris.specs.declared.EphemerisDataAnswer.{EphemerisDataAnswer}
-use Rattle.ephemeris.specs.declared.EphemerisDataAnswer.TheVariants.{Data}
-use Rattle.ephemeris.specs.declared.EphemerisDataAnswer.TheVariants as da
 
 -- ---- by name
 
@@ -53,12 +48,13 @@ abbrev pub entry_bytes : Bool → ℕ
 entry_bytes accel = cond accel 43 31
 
 -- none unless the index is below the count, the body at most 4096 bytes long, and the entry within the body
-unfoldable pub ephemeris_data_at : List ℕ → Part → Bool → ℕ → EphemerisDataAnswer
+unfoldable pub ephemeris_data_at : List ℕ → Part → Bool → ℕ → Option EphemerisData
 ephemeris_data_at b part accel index =
     let size : ℕ = entry_bytes accel in
     let at : ℕ = part.start + size * index in
-    let more : EphemerisDataAnswer = read b 0 (entry accel) (8 * at) (λ ts q. Data (ephemeris_by accel ts)) (λ f. da.None) in
-    cond (ltb index part.count) (cond (leb (length b) 4096) (cond (leb (at + size) (length b)) more da.None) da.None) da.None
+    let more : Option EphemerisData =
+    read b 0 (entry accel) (8 * at) (λ ts q. Some (ephemeris_by accel ts)) (λ f. None) in
+    cond (ltb index part.count) (cond (leb (length b) 4096) (cond (leb (at + size) (length b)) more None) None) None
 
 -- ---- what the bits at a place spell
 
@@ -69,7 +65,7 @@ entry_width accel = cond accel 344 248
 pub record Ahead (b : List ℕ) (accel : Bool) (p : ℕ) : Type 0 where
   pub ahead : accel ≡ true → Room b p 344
 
-abbrev pub accel_of : List ℕ → ℕ → Bool → MaybeEphemerisAccel
+abbrev pub accel_of : List ℕ → ℕ → Bool → Option EphemerisAccel
 accel_of b p accel =
     cond accel
     (Some

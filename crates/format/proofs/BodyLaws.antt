@@ -10,7 +10,8 @@ use lib.ListN.{length, take, drop, replicate, length-append, length-take, length
 use lib.Seq.{take_at, drop_at, take_all, length-take-le, drop-append_seam, take-append_seam}
 use borrow.Author.Tests.{le-leb, lt-leb, leb-true, leb-false, eq-eqb, eqb-true}
 use Rattle.format.specs.Digits.{digits, value, Below}
-use Rattle.format.specs.Syntax.{Name, Syntax, end, field, when, need, at_most, slots, plan, raw, Field, num, flags, bytes, edition_2, got}
+use Rattle.format.specs.Syntax.{Name, Syntax, end, field, when, need, at_most, slots, plan, raw, Field, num, flags, bytes, got}
+use Rattle.format.specs.declared.Edition.TheVariants.{Second}
 use Rattle.format.specs.Body.{wholes, planned, read_body, laid, kept}
 use Rattle.format.specs.Ledger.{size, raw_left}
 use Rattle.format.proofs.DigitLaws.{length_digits, value_digits, value_lt, below_take, below_drop, has_at}
@@ -76,7 +77,7 @@ module _ (n : ℕ) where
   reread e rest (Good.g_field g nm w k v {ts} _ h r) m f y x =
       let d : List ℕ = digits 2 w v in
       let l : length d ≡ w = length_digits 2 w v in
-      let t : length (kept (num g nm w v ∷ ts)) ≡ w + length (kept ts) = Good.laid_num edition_2 g nm w v ts in
+      let t : length (kept (num g nm w v ∷ ts)) ≡ w + length (kept ts) = Good.laid_num Second g nm w v ts in
       rw (
         append_assoc d (kept ts) rest,
         take_at d (kept ts ++ rest) w l,
@@ -92,7 +93,7 @@ module _ (n : ℕ) where
   reread e rest (Good.g_most a v j h r) m f y x = rw (le-leb v j h) (reread e rest r m f y x)
   reread e rest (Good.g_slots nm a j bs {ts} c h r) m f y x =
       let z : List ℕ = replicate (8 * wholes (length bs) - length bs) 0 in
-      let t : length (kept (flags nm bs ∷ ts)) ≡ 8 * wholes (length bs) + length (kept ts) = Good.laid_flags edition_2 nm bs ts in
+      let t : length (kept (flags nm bs ∷ ts)) ≡ 8 * wholes (length bs) + length (kept ts) = Good.laid_flags Second nm bs ts in
       rw (
         ← c,
         append_assoc (bs ++ z) (kept ts) rest,
@@ -127,7 +128,7 @@ module _ (n : ℕ) where
         c.drops,
       )
   reread e rest (Good.g_raw nm bs _ a) m f y x =
-      let f' : length bs + length rest ≤ n = omega (arith, f, Good.laid_bytes edition_2 nm bs [], Good.laid_nil edition_2) in
+      let f' : length bs + length rest ≤ n = omega (arith, f, Good.laid_bytes Second nm bs [], Good.laid_nil Second) in
       let q = x tt in
       rw (append-nil bs, raw_same n e bs rest f' q.0 q.1, take-append_seam bs rest, drop-append_seam bs rest)
 
@@ -240,7 +241,7 @@ module _ (n : ℕ) (n8 : n % 8 ≡ 0) where
   sound l i b c e end bs {ts} {rest} f h a g x y q =
       let q1 : ts ≡ [] = cc in
       let q2 : rest ≡ bs = cc in
-      rw (q1, q2) (record { good = Good.g_end; fits = omega (arith, Good.laid_nil edition_2); aligned = omega (arith, f.0); below = h; raws = λ _ _ _. refl })
+      rw (q1, q2) (record { good = Good.g_end; fits = omega (arith, Good.laid_nil Second); aligned = omega (arith, f.0); below = h; raws = λ _ _ _. refl })
   sound l i b c e (field s nm w k) bs {ts} {rest} f h a g x y q =
       let v : ℕ = value 2 (take w bs) in
       let p = cond_got (leb w (length bs)) _ _ _ _ q in
@@ -249,7 +250,7 @@ module _ (n : ℕ) (n8 : n % 8 ≡ 0) where
       let hv : v < 2 ^ w = rw (length-take-le w bs hw) at (value_lt 2 (take w bs) (below_take 2 w bs h)) in
       let r : Read n e l i (k v) (drop w bs) o.0 rest =
       sound l i (b + w) (c + size s w) e (k v) (drop w bs) (f.1 v) (below_drop 2 w bs h) (omega (arith, length-drop w bs)) (omega (arith, length-drop w bs)) x y o.1 in
-      rw o.2 (one_more w bs o.0 (Good.g_field s nm w k v f.0 hv r.good) (Good.laid_num edition_2 s nm w v o.0) hw (λ _ _. refl) r)
+      rw o.2 (one_more w bs o.0 (Good.g_field s nm w k v f.0 hv r.good) (Good.laid_num Second s nm w v o.0) hw (λ _ _. refl) r)
   sound l i b c e (when true u z) bs f h a g x y q = let r = sound l i b c e u bs f.0 h a g x y q in again r (Good.g_yes r.good)
   sound l i b c e (when false u z) bs f h a g x y q = let r = sound l i b c e z bs f.1 h a g x y q in again r (Good.g_no r.good)
   sound l i b c e (need j w k) bs {ts} {rest} f h a g x y q =
@@ -271,7 +272,7 @@ module _ (n : ℕ) (n8 : n % 8 ≡ 0) where
       let r : Read n e l i k after o.0 rest = sound l i b c e k after f.2 (below_drop 2 (8 * wholes m) bs h) (omega (arith, f.1)) (omega arith) x y o.1 in
       rw o.2
       (one_more (8 * wholes m) bs o.0 (Good.g_slots nm j m (take m bs) lt (below_take 2 m bs h) r.good)
-      (omega (arith, Good.laid_flags edition_2 nm (take m bs) o.0, ap wholes lt)) (omega (arith, f.1)) (λ _ _. refl) r)
+      (omega (arith, Good.laid_flags Second nm (take m bs) o.0, ap wholes lt)) (omega (arith, f.1)) (λ _ _. refl) r)
   sound l i b c e (plan nm k) bs {ts} {rest} f h a g x y q =
       let after : List ℕ = drop 12 bs in
       let la : length after ≡ length bs - 12 = length-drop 12 bs in
@@ -283,7 +284,7 @@ module _ (n : ℕ) (n8 : n % 8 ≡ 0) where
       let z = close_got nm v n e' (read_body n e' k after) p.1 in
       let r : Read n e' l true k after z.0 z.1 =
       sound l true (b + 12) (c + 4) e' k after f.2 (below_drop 2 12 bs h) (omega (arith, f.1)) (omega arith) (λ _. omega (arith, f.1)) (λ no. absurd (no tt)) z.2 in
-      read_plan_lem nm l i k bs z.0 z.1 e e' v hm g f.0 hv (omega (arith, f.1, Good.whole edition_2 (b + 12) (c + 4) r.good f.2)) (omega (arith, f.1)) refl z.3 z.4 z.5 (y f.0) r
+      read_plan_lem nm l i k bs z.0 z.1 e e' v hm g f.0 hv (omega (arith, f.1, Good.whole Second (b + 12) (c + 4) r.good f.2)) (omega (arith, f.1)) refl z.3 z.4 z.5 (y f.0) r
   sound l i b c e (raw nm) bs {ts} {rest} f h a g x y q =
       let m : ℕ = cond (leb e n) (e - (n - length bs)) 0 in
       let q1 : ts ≡ bytes nm (take m bs) ∷ [] = cc in
@@ -293,7 +294,7 @@ module _ (n : ℕ) (n8 : n % 8 ≡ 0) where
       let lt : length (take m bs) ≡ m = length-take-le m bs o.0 in
       rw (q1, q2) (record {
         good = Good.good_raw nm i (take m bs) f.0 (below_take 2 m bs h) (rw lt o.1);
-        fits = omega (arith, Good.laid_bytes edition_2 nm (take m bs) [], Good.laid_nil edition_2, lt, o.0, length-drop m bs);
+        fits = omega (arith, Good.laid_bytes Second nm (take m bs) [], Good.laid_nil Second, lt, o.0, length-drop m bs);
         aligned = omega (arith, o, length-drop m bs);
         below = below_drop 2 m bs h;
         raws = λ _ j p. raw_rest n e m j bs g refl p;

@@ -11,17 +11,19 @@ use lib.Dec.{leb}
 use lib.ListN.{length, drop, length-append, length-drop}
 use lib.Seq.{take-append_seam, drop-append_seam}
 use borrow.Author.Tests.{le-leb, lt-leb, leb-true}
+use Rattle.std.specs.Prelude.{Result, Err}
+use Rattle.format.specs.declared.Fault.{Fault}
 use Rattle.format.specs.Digits.{Below, splice}
 use Rattle.format.specs.Refusals.{refuse}
-use Rattle.format.specs.Syntax.{Edition, Parse, got, refused, and_then}
+use Rattle.format.specs.Syntax.{Parse, got, refused, and_then}
+use Rattle.format.specs.declared.Edition.{Edition}
 use Rattle.format.specs.Whole.{Table, body_read, Accepted, AcceptedBefore, body_of, ledger_of, id_of, edition_of, ledger_read}
-use Rattle.format.specs.Calls.{number_of, table_id_of, length_of, answer, Fitted, left, result_in, Enough, filed, relaid, restored, write_answer, write_left, read_answer, read_left, Wrote, Denied, Gave}
+use Rattle.format.specs.Calls.{done, number_of, table_id_of, length_of, answer, Fitted, left, result_in, Enough, filed, relaid, restored, write_answer, write_left, read_answer, read_left, Wrote, Denied, Gave}
 use Rattle.format.specs.declared.Refusal.{Refusal}
-use Rattle.format.specs.declared.Answer.{Answer}
-use Rattle.format.specs.declared.Answer.TheVariants.{Done, Refused}
+use Rattle.format.specs.declared.Output.{Output}
+use Rattle.format.specs.declared.Fault.TheVariants.{BufferTooShort, ExtensionTooLarge}
 use Rattle.format.proofs.ParseLaws.{then_got}
-use Rattle.format.proofs.NumberLaws as numbers
-use Rattle.format.proofs.NumberLaws.{Numbered, accepts, numbered_then, numbered_body_read, numbered_ledger_read}
+use Rattle.format.proofs.NumberLaws.{fault_number_positive}
 use Rattle.format.proofs.TableLaws.{fine_layout, form_of, body_form_of}
 use Rattle.format.proofs.TestLaws.{Still, still, refuses}
 use Rattle.format.proofs.Demand.{IsLedger, ledger_before, accepted_before, still_accepted, body_again, ledger_form_of, body_all, ledger_all, ledger_length, ledger_again, read_accepted, same_ledger, id_of_lem, edition_of_lem, ledger_exactly}
@@ -39,42 +41,42 @@ left_length out (got xs rest) = go (leb (length xs) (length out)) refl
     go false e = refl
 
 -- the answer by a result's length alone
-pub fits : {id n room : ℕ} → n ≤ room → Fitted id n room (Done id n)
+pub fits : {id n room : ℕ} → n ≤ room → Fitted id n room (done id n)
 unfolding answer
 fits {id} {n} {room} h = record { is = λ xs rest e. rw (← e, le-leb n room h) }
 
-pub over : {id n room : ℕ} → room < n → Fitted id n room (Refused (refuse 22 n room))
+pub over : {id n room : ℕ} → room < n → Fitted id n room (Err (refuse BufferTooShort n room))
 unfolding answer
 over {id} {n} {room} h = record { is = λ xs rest e. rw (← e, lt-leb n room h) }
 
 -- what an answer tells: a result, its length, and room for it
-pub answer_done : {t n : ℕ} (id room : ℕ) (p : Parse (List ℕ)) → answer id room p ≡ Done t n
+pub answer_done : {t n : ℕ} (id room : ℕ) (p : Parse (List ℕ)) → answer id room p ≡ done t n
     → (xs : List ℕ) × (rest : List ℕ) × (p ≡ got xs rest) × (length xs ≡ n) × (n ≤ room)
-unfolding answer
+unfolding answer length_of
 answer_done id room (refused x y z) e = let o : ◌≡◌ {A = ℕ} 0 1 = cc in absurd (omega arith)
 answer_done {t} {n} id room (got xs rest) e = let o = go (leb (length xs) room) refl _ e in (xs, rest, refl, o.0, o.1)
   where
-    go : (b : Bool) → leb (length xs) room ≡ b → (f : Refusal) → cond b (Done id (length xs)) (Refused f) ≡ Done t n → (length xs ≡ n) × (n ≤ room)
+    go : (b : Bool) → leb (length xs) room ≡ b → (f : Refusal) → cond b (done id (length xs)) (Err f) ≡ done t n → (length xs ≡ n) × (n ≤ room)
     go true q f e =
-        let z : length xs ≡ n = cc in
+        let z : length xs ≡ n = ap length_of e in
         (z, omega (arith, z, leb-true (length xs) room q))
     go false q f e = let o : ◌≡◌ {A = ℕ} 0 1 = cc in absurd (omega arith)
 
 -- or that the buffer is as it was
-pub answer_refused : {f : Refusal} (id : ℕ) (out : List ℕ) (p : Parse (List ℕ)) → answer id (length out) p ≡ Refused f → left out p ≡ out
+pub answer_refused : {f : Refusal} (id : ℕ) (out : List ℕ) (p : Parse (List ℕ)) → answer id (length out) p ≡ Err f → left out p ≡ out
 unfolding answer left
 answer_refused id out (refused x y z) e = refl
 answer_refused {f} id out (got xs rest) e = go (leb (length xs) (length out)) _ e
   where
-    go : (t : Bool) (g : Refusal) → cond t (Done id (length xs)) (Refused g) ≡ Refused f → cond t (splice out 0 xs) out ≡ out
+    go : (t : Bool) (g : Refusal) → cond t (done id (length xs)) (Err g) ≡ Err f → cond t (splice out 0 xs) out ≡ out
     go true g e = let o : ◌≡◌ {A = ℕ} 0 1 = cc in absurd (omega arith)
     go false g e = refl
 
-pub write_within_lem : {t n : ℕ} (ed : Edition) (id : ℕ) (b : List ℕ) (room : ℕ) → write_answer ed id b room ≡ Done t n → n ≤ room
+pub write_within_lem : {t n : ℕ} (ed : Edition) (id : ℕ) (b : List ℕ) (room : ℕ) → write_answer ed id b room ≡ done t n → n ≤ room
 unfolding write_answer
 write_within_lem ed id b room e = (answer_done id room (filed ed id b) e).4
 
-pub read_within : {t n : ℕ} (l : List ℕ) (room : ℕ) → read_answer l room ≡ Done t n → n ≤ room
+pub read_within : {t n : ℕ} (l : List ℕ) (room : ℕ) → read_answer l room ≡ done t n → n ≤ room
 unfolding read_answer
 read_within l room e = (answer_done (id_of l) room (restored l) e).4
 
@@ -84,23 +86,23 @@ unfolding answer left number_of
 refused_keeps id out (refused x y z) h = refl
 refused_keeps id out (got xs rest) h = go (leb (length xs) (length out)) _ h
   where
-    go : (t : Bool) (f : Refusal) → (number_of (cond t (Done id (length xs)) (Refused f)) ≡ 0 → ⊥) → cond t (splice out 0 xs) out ≡ out
+    go : (t : Bool) (f : Refusal) → (number_of (cond t (done id (length xs)) (Err f)) ≡ 0 → ⊥) → cond t (splice out 0 xs) out ≡ out
     go true f k = absurd (k refl)
     go false f k = refl
 
 -- where the answer is acceptance, there is a result and room for it
-pub accepts_result : (id room : ℕ) (p : Parse (List ℕ)) → Numbered p → number_of (answer id room p) ≡ 0
+pub accepts_result : (id room : ℕ) (p : Parse (List ℕ)) → number_of (answer id room p) ≡ 0
     → (xs : List ℕ) × (rest : List ℕ) × (p ≡ got xs rest) × (length xs ≤ room)
 unfolding answer number_of
-accepts_result id room (refused x y z) (numbers.refuses n) e = absurd (omega (arith, n))
-accepts_result id room (got xs rest) n e = (xs, rest, refl, go (leb (length xs) room) refl _ (omega arith) e)
+accepts_result id room (refused x y z) e = absurd (omega (arith, fault_number_positive x))
+accepts_result id room (got xs rest) e = (xs, rest, refl, go (leb (length xs) room) refl _ e)
   where
-    go : (t : Bool) → leb (length xs) room ≡ t → (f : Refusal) → 0 < f.number → number_of (cond t (Done id (length xs)) (Refused f)) ≡ 0 → length xs ≤ room
-    go true q f h e = leb-true (length xs) room q
-    go false q f h e = absurd (omega (arith, h))
+    go : (t : Bool) → leb (length xs) room ≡ t → (f : Refusal) → number_of (cond t (done id (length xs)) (Err f)) ≡ 0 → length xs ≤ room
+    go true q f e = leb-true (length xs) room q
+    go false q f e = absurd (omega (arith, fault_number_positive f.fault))
 
 -- a result for which there is room: acceptance, the result, and behind it the old values
-pub record Given (id : ℕ) (out xs : List ℕ) (a : Answer) (out' : List ℕ) : Type 0 where
+pub record Given (id : ℕ) (out xs : List ℕ) (a : Result Output Refusal) (out' : List ℕ) : Type 0 where
   pub accepts : number_of a ≡ 0
   pub table_id_is : table_id_of a ≡ id
   pub size : length_of a ≡ length xs
@@ -127,10 +129,6 @@ filed_table ed id b xs rest e =
     let q : got (ledger_of ed id o.0) [] ≡ got xs rest = o.3 in
     (o.0, rw (body_all id b o.2) at o.2, cc)
 
-numbered_filed : (ed : Edition) (id : ℕ) (b : List ℕ) → Numbered (filed ed id b)
-unfolding filed
-numbered_filed ed id b = numbered_then (body_read id b) (λ t r. got (ledger_of ed id t) []) (numbered_body_read id b) (λ _ _. accepts)
-
 -- demand 1: a body is accepted exactly if its reading meets no refusal and there is room for its ledger
 pub write_exactly : (ed : Edition) (id : ℕ) (b : List ℕ) (room : ℕ)
     → (number_of (write_answer ed id b room) ≡ 0) ↔ ((t : Table) × (body_read id b ≡ got t []) × (length (ledger_of ed id t) ≤ room))
@@ -139,7 +137,7 @@ write_exactly ed id b room = (there, back)
   where
     there : number_of (answer id room (filed ed id b)) ≡ 0 → (t : Table) × (body_read id b ≡ got t []) × (length (ledger_of ed id t) ≤ room)
     there e =
-        let o = accepts_result id room (filed ed id b) (numbered_filed ed id b) e in
+        let o = accepts_result id room (filed ed id b) e in
         let q = filed_table ed id b o.0 o.1 o.2 in
         (q.0, q.1, rw q.2 at o.3)
 
@@ -158,7 +156,7 @@ pub wrote_accepted : {ed : Edition} {id : ℕ} {b out l : List ℕ} → id < 256
     → (t : Table) × Accepted id b t × (ledger_of ed id t ≡ l) × (length l ≤ length out)
 unfolding write_answer write_left
 wrote_accepted {ed} {id} {b} {out} {l} hi hb w =
-    let o = accepts_result id (length out) (filed ed id b) (numbered_filed ed id b) w.accepts in
+    let o = accepts_result id (length out) (filed ed id b) w.accepts in
     let q = filed_table ed id b o.0 o.1 o.2 in
     let g = result_given id out o.0 o.1 (filed ed id b) o.2 o.3 in
     let e : o.0 ≡ l = sym g.result ∙ w.result in
@@ -173,10 +171,6 @@ restored_table l xs rest e =
     let q : got (body_of (edition_of l) o.0) [] ≡ got xs rest = o.3 in
     (o.0, rw (ledger_all l o.2) at o.2, cc)
 
-numbered_restored : (l : List ℕ) → Numbered (restored l)
-unfolding restored
-numbered_restored l = numbered_then (ledger_read l) (λ t r. got (body_of (edition_of l) t) []) (numbered_ledger_read l) (λ _ _. accepts)
-
 pub read_gave : {l : List ℕ} {t : Table} (out : List ℕ) → ledger_read l ≡ got t [] → length (body_of (edition_of l) t) ≤ length out → Gave l out (id_of l) (body_of (edition_of l) t)
 unfolding read_answer read_left restored
 read_gave {l} {t} out e h =
@@ -187,7 +181,7 @@ read_gave {l} {t} out e h =
 pub gave_read : {l out b : List ℕ} {id : ℕ} → Gave l out id b → (t : Table) × (ledger_read l ≡ got t []) × (id_of l ≡ id) × (body_of (edition_of l) t ≡ b)
 unfolding read_answer read_left
 gave_read {l} {out} {b} {id} w =
-    let o = accepts_result (id_of l) (length out) (restored l) (numbered_restored l) w.accepts in
+    let o = accepts_result (id_of l) (length out) (restored l) w.accepts in
     let q = restored_table l o.0 o.1 o.2 in
     let g = result_given (id_of l) out o.0 o.1 (restored l) o.2 o.3 in
     (q.0, q.1, sym g.table_id_is ∙ w.table_id_is, sym q.2 ∙ sym g.result ∙ w.result)
@@ -262,7 +256,7 @@ stored_given {ed} {l} r out h =
     rw (i, z) at (read_gave out e (enough_body l t (length out) e h))
 
 -- a body that is refused is so by either edition's writer
-denied : {id : ℕ} {b : List ℕ} {x y z : ℕ} (ed : Edition) (out : List ℕ) → body_read id b ≡ refused x y z → Denied ed id b out (refuse x y z)
+denied : {id : ℕ} {b : List ℕ} {x : Fault} {y z : ℕ} (ed : Edition) (out : List ℕ) → body_read id b ≡ refused x y z → Denied ed id b out (refuse x y z)
 unfolding write_answer write_left filed answer left
 denied ed out e = record { refuses = rw e; keeps = rw e }
 
@@ -270,7 +264,7 @@ denied ed out e = record { refuses = rw e; keeps = rw e }
 -- above 299, it is refused by 30
 pub data Again (l : List ℕ) (id : ℕ) (b : List ℕ) : Type 0 where
   written : ((out : List ℕ) → length l ≤ length out → Wrote (edition_of l) id b out l) → Again l id b
-  damaged : (v : ℕ) → 299 < v → ((ed : Edition) (out : List ℕ) → Denied ed id b out (refuse 30 v 299)) → Again l id b
+  damaged : (v : ℕ) → 299 < v → ((ed : Edition) (out : List ℕ) → Denied ed id b out (refuse ExtensionTooLarge v 299)) → Again l id b
 
 read_again : {l : List ℕ} {t : Table} → Below 256 l → ledger_read l ≡ got t [] → Again l (id_of l) (body_of (edition_of l) t)
 read_again {l} {t} hl e = go (still_accepted q.0)
@@ -303,7 +297,7 @@ read_exactly l out hl h = (there, back)
   where
     there : number_of (answer (id_of l) (length out) (restored l)) ≡ 0 → (ed : Edition) × IsLedger AcceptedBefore ed l
     there e =
-        let o = accepts_result (id_of l) (length out) (restored l) (numbered_restored l) e in
+        let o = accepts_result (id_of l) (length out) (restored l) e in
         let q = restored_table l o.0 o.1 o.2 in
         (ledger_exactly l hl).0 (q.0, q.1)
 

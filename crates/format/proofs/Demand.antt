@@ -10,7 +10,9 @@ use lib.Dec.{leb, eqb}
 use lib.ListN.{length, take, drop, get_or, length-append, length-drop}
 use borrow.Author.Tests.{le-leb, leb-true, eq-eqb, eqb-true}
 use Rattle.format.specs.Digits.{digits, value, Below}
-use Rattle.format.specs.Syntax.{Edition, edition_1, edition_2, Parse, got}
+use Rattle.format.specs.Syntax.{Parse, got}
+use Rattle.format.specs.declared.Edition.{Edition}
+use Rattle.format.specs.declared.Edition.TheVariants.{First, Second}
 use Rattle.format.specs.Whole.{Layout, layout, layout_before, Table, body_read_as, body_read, AcceptedAs, Accepted, AcceptedBefore, body_of, kept_of, content_of, version, ledger_of, content_as, sized, version_of, id_of, known, edition_for, edition_of, ledger_read}
 use Rattle.format.proofs.DigitLaws.{length_digits, value_digits, digits_take, below_drop, digit_in}
 use Rattle.format.proofs.ParseLaws.{cond_got, then_got}
@@ -34,7 +36,7 @@ body_all id b e = read_all (layout id) b (cond_got (leb (length b) 4096) _ _ _ _
 known_version : (v : ℕ) → known v ≡ true → version (edition_for v) ≡ v
 known_version v q = go (eqb v 1) (eqb v 2) refl refl q
   where
-    go : (t u : Bool) → eqb v 1 ≡ t → eqb v 2 ≡ u → (t || u) ≡ true → version (cond u edition_2 edition_1) ≡ v
+    go : (t u : Bool) → eqb v 1 ≡ t → eqb v 2 ≡ u → (t || u) ≡ true → version (cond u Second First) ≡ v
     go t true x y z = sym (eqb-true v 2 y)
     go true false x y z = sym (eqb-true v 1 x)
     go false false x y z = absurd (true≢false (sym z))
@@ -133,8 +135,8 @@ id_of_lem ed id t = refl
 
 pub edition_of_lem : (ed : Edition) (id : ℕ) (t : Table) → edition_of (ledger_of ed id t) ≡ ed
 unfolding ledger_of digits
-edition_of_lem edition_1 id t = refl
-edition_of_lem edition_2 id t = refl
+edition_of_lem First id t = refl
+edition_of_lem Second id t = refl
 
 -- the front of a ledger: what its tests find
 record Front (ed : Edition) (c : List ℕ) (id : ℕ) (l : List ℕ) : Type 0 where
@@ -159,12 +161,12 @@ front ed c id h =
     }
   where
     one_of : (e : Edition) → known (version e) ≡ true
-    one_of edition_1 = refl
-    one_of edition_2 = refl
+    one_of First = refl
+    one_of Second = refl
 
     its : (e : Edition) → edition_for (version e) ≡ e
-    its edition_1 = refl
-    its edition_2 = refl
+    its First = refl
+    its Second = refl
 
 -- it is read, and gives the fields as far as its edition has them, and so the edition's body
 pub ledger_again : {id : ℕ} {b : List ℕ} {t : Table} (ed : Edition) → AcceptedBefore id b t → ledger_read (ledger_of ed id t) ≡ got (form_of ed t) []

@@ -6,8 +6,12 @@ use mathlib.Core.List.{List, [], ◌∷◌, ◌++◌}
 use Prim.Native.Nat.{ℕ, zero, suc, ◌<◌}
 use native.Mathlib.Omega.{arith}
 use lib.ListN.{length, take, drop}
+use Rattle.format.specs.declared.Fault.TheVariants.{UsableStartCut, UsableStopCut}
+use Rattle.format.specs.declared.Fault.{Fault}
 use Rattle.format.specs.Digits.{digits, Below}
-use Rattle.format.specs.Syntax.{Name, Syntax, Field, Edition, edition_1, edition_2, got}
+use Rattle.format.specs.Syntax.{Name, Syntax, Field, got}
+use Rattle.format.specs.declared.Edition.{Edition}
+use Rattle.format.specs.declared.Edition.TheVariants.{First, Second}
 use Rattle.format.specs.Tables.{times, obsolescent, new, delivery, position, fragment, association, usable, metadata, ephemeris, covariance, ephemerides, position3}
 use Rattle.format.specs.Ledger.{ledger}
 use Rattle.format.specs.Whole.{Layout, sole, many, opaque, layout, Table, ledgers, content_of, ledger_of}
@@ -21,7 +25,7 @@ use Rattle.format.proofs.CallLaws.{wrote_accepted}
 
 -- ---- fields that are no plan's
 
-ledger_same : {l i : Bool} {s : Syntax} {ts : List Field} (ed : Edition) → NoPlan s → Good l i s ts → ledger ed ts ≡ ledger edition_1 ts
+ledger_same : {l i : Bool} {s : Syntax} {ts : List Field} (ed : Edition) → NoPlan s → Good l i s ts → ledger ed ts ≡ ledger First ts
 unfolding ledger
 ledger_same ed p g_end = refl
 ledger_same ed p (g_field g nm w k v _ _ r) = rw (ledger_same ed (p v) r)
@@ -33,7 +37,7 @@ ledger_same ed p (g_slots nm a m bs _ _ r) = rw (ledger_same ed p r)
 ledger_same ed p (g_plan nm v fs _ r) = absurd p
 ledger_same ed p (g_raw nm bs _ _) = refl
 
-ledgers_same : (s : Syntax) (ed : Edition) (es : List (List Field)) → NoPlan s → AllGood s es → ledgers ed es ≡ ledgers edition_1 es
+ledgers_same : (s : Syntax) (ed : Edition) (es : List (List Field)) → NoPlan s → AllGood s es → ledgers ed es ≡ ledgers First es
 unfolding ledgers
 ledgers_same s ed [] p g = refl
 ledgers_same s ed (ts ∷ es) p g = ap₂ (λ (x y : List ℕ). x ++ y) (ledger_same ed p g.0) (ledgers_same s ed es p g.1)
@@ -74,13 +78,13 @@ planless_ephemeris accel r h = (λ _ _ _ _ _ _ _ _ _ _ _ _ _. h, λ _ _ _ _ _ _ 
 planless_ephemerides : (accel cov : ℕ) → NoPlan (ephemerides accel cov)
 planless_ephemerides accel cov = λ n. planless_times n (ephemeris accel) (planless_ephemeris accel) (covariance cov) (planless_covariance cov)
 
-planless_usable : (number : ℕ) (nm : Name) (flag : ℕ) (r : Syntax) → NoPlan r → NoPlan (usable number nm flag r)
+planless_usable : (number : Fault) (nm : Name) (flag : ℕ) (r : Syntax) → NoPlan r → NoPlan (usable number nm flag r)
 planless_usable number nm flag r h = (λ _ _ _ _. h, h)
 
 planless_metadata : (start stop : ℕ) (r : Syntax) → NoPlan r → NoPlan (metadata start stop r)
 planless_metadata start stop r h =
-    let s : NoPlan (usable 18 "usable_stop_time" stop r) = planless_usable 18 "usable_stop_time" stop r h in
-    λ _ _ _ _ _ _ _ _ _ _ _ _. planless_usable 17 "usable_start_time" start (usable 18 "usable_stop_time" stop r) s
+    let s : NoPlan (usable UsableStopCut "usable_stop_time" stop r) = planless_usable UsableStopCut "usable_stop_time" stop r h in
+    λ _ _ _ _ _ _ _ _ _ _ _ _. planless_usable UsableStartCut "usable_start_time" start (usable UsableStopCut "usable_stop_time" stop r) s
 
 planless_position3 : NoPlan position3
 unfolding position3
@@ -99,14 +103,14 @@ planless_layout (suc (suc (suc zero))) h = absurd (h refl)
 planless_layout (suc (suc (suc (suc zero)))) h = (planless_header, planless_position3)
 planless_layout (suc (suc (suc (suc (suc n))))) h = tt
 
-content_same : {l : Layout} {t : Table} (ed : Edition) → Planless l → GoodTable l t → content_of ed t ≡ content_of edition_1 t
+content_same : {l : Layout} {t : Table} (ed : Edition) → Planless l → GoodTable l t → content_of ed t ≡ content_of First t
 unfolding content_of
 content_same ed p (good_one g) = ledger_same ed p g
 content_same ed p (good_list {s = s} {es = es} g gs) = ap₂ (λ (x y : List ℕ). x ++ (digits 256 2 (length es) ++ y)) (ledger_same ed p.0 g) (ledgers_same s ed es p.1 gs)
 content_same ed p (good_raw h) = refl
 
 -- "Other ids change only the version byte": the one at place 2
-pub other_ids : {id : ℕ} {b out out' l l' : List ℕ} → (id ≡ 3 → ⊥) → id < 256 → Below 256 b → Wrote edition_1 id b out l → Wrote edition_2 id b out' l'
+pub other_ids : {id : ℕ} {b out out' l l' : List ℕ} → (id ≡ 3 → ⊥) → id < 256 → Below 256 b → Wrote First id b out l → Wrote Second id b out' l'
     → (take 2 l ≡ take 2 l') × (drop 3 l ≡ drop 3 l')
 unfolding ledger_of digits
 other_ids {id} {b} {l = l} {l'} h hi hb w w' =
@@ -116,5 +120,5 @@ other_ids {id} {b} {l = l} {l'} h hi hb w w' =
     let t' : Table = o'.0 in
     let e : got t [] ≡ got t' [] = sym o.1.reads ∙ o'.1.reads in
     let s : t ≡ t' = cc in
-    let c : content_of edition_2 t' ≡ content_of edition_1 t = ap (content_of edition_2) (sym s) ∙ content_same edition_2 (planless_layout id h) (accepted_good (fine_layout id) o.1).0 in
+    let c : content_of Second t' ≡ content_of First t = ap (content_of Second) (sym s) ∙ content_same Second (planless_layout id h) (accepted_good (fine_layout id) o.1).0 in
     (rw (← o.2, ← o'.2, c), rw (← o.2, ← o'.2, c))

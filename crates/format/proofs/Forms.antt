@@ -9,7 +9,9 @@ use native.Mathlib.Omega.{arith}
 use lib.Dec.{T}
 use lib.ListN.{length}
 use Rattle.format.specs.Digits.{digits}
-use Rattle.format.specs.Syntax.{Name, Syntax, Field, num, flags, bytes, len, filler, Edition, edition_1, edition_2, added}
+use Rattle.format.specs.Syntax.{Name, Syntax, Field, num, flags, bytes, len, filler, added}
+use Rattle.format.specs.declared.Edition.{Edition}
+use Rattle.format.specs.declared.Edition.TheVariants.{First, Second}
 use Rattle.format.specs.Body.{planned, padded, length_of_plan, laid, plain, kept}
 use Rattle.format.specs.Ledger.{ledger}
 use Rattle.format.specs.Whole.{laids, ledgers}
@@ -24,7 +26,7 @@ form ed (len nm v ∷ ts) = len nm (length_of_plan ed v (plain ts)) ∷ form ed 
 form ed (filler fs ∷ ts) = filler (added ed fs) ∷ form ed ts
 
 -- the second edition keeps all
-pub form_2 : (ts : List Field) → form edition_2 ts ≡ ts
+pub form_2 : (ts : List Field) → form Second ts ≡ ts
 unfolding form
 form_2 [] = refl
 form_2 (num g nm w v ∷ ts) = ap (λ (us : List Field). num g nm w v ∷ us) (form_2 ts)
@@ -34,8 +36,8 @@ form_2 (len nm v ∷ ts) = ap (λ (us : List Field). len nm v ∷ us) (form_2 ts
 form_2 (filler fs ∷ ts) = ap (λ (us : List Field). filler fs ∷ us) (form_2 ts)
 
 length_of_plan_lem : (ed : Edition) (v : ℕ) (ts : List Field) → length_of_plan ed v (plain ts) ≡ length_of_plan ed v (laid ed ts)
-length_of_plan_lem edition_1 v ts = refl
-length_of_plan_lem edition_2 v ts = refl
+length_of_plan_lem First v ts = refl
+length_of_plan_lem Second v ts = refl
 
 -- an edition's body is the kept body of what comes back
 pub kept_form : (ed : Edition) (ts : List Field) → kept (form ed ts) ≡ laid ed ts
@@ -48,7 +50,7 @@ kept_form ed (len nm v ∷ ts) = ap₂ (λ (k : ℕ) (x : List ℕ). digits 2 12
 kept_form ed (filler fs ∷ ts) = ap (λ (x : List ℕ). added ed fs ++ x) (kept_form ed ts)
 
 -- and has the same ledger
-ledger_plain : (ts : List Field) → ledger edition_1 (form edition_1 ts) ≡ ledger edition_1 ts
+ledger_plain : (ts : List Field) → ledger First (form First ts) ≡ ledger First ts
 unfolding form ledger
 ledger_plain [] = refl
 ledger_plain (num g nm w v ∷ ts) = rw (ledger_plain ts)
@@ -58,11 +60,11 @@ ledger_plain (len nm v ∷ ts) = ledger_plain ts
 ledger_plain (filler fs ∷ ts) = ledger_plain ts
 
 pub ledger_form : (ed : Edition) (ts : List Field) → ledger ed (form ed ts) ≡ ledger ed ts
-ledger_form edition_1 ts = ledger_plain ts
-ledger_form edition_2 ts = ap (ledger edition_2) (form_2 ts)
+ledger_form First ts = ledger_plain ts
+ledger_form Second ts = ap (ledger Second) (form_2 ts)
 
 -- and the same body
-plain_form : (ts : List Field) → plain (form edition_1 ts) ≡ plain ts
+plain_form : (ts : List Field) → plain (form First ts) ≡ plain ts
 unfolding form laid
 plain_form [] = refl
 plain_form (num g nm w v ∷ ts) = rw (plain_form ts)
@@ -72,8 +74,8 @@ plain_form (len nm v ∷ ts) = rw (plain_form ts)
 plain_form (filler fs ∷ ts) = plain_form ts
 
 pub laid_form : (ed : Edition) (ts : List Field) → laid ed (form ed ts) ≡ laid ed ts
-laid_form edition_1 ts = plain_form ts
-laid_form edition_2 ts = ap kept (form_2 ts)
+laid_form First ts = plain_form ts
+laid_form Second ts = ap kept (form_2 ts)
 
 -- ---- what is within a plan has no length of its own to compute
 
@@ -116,11 +118,11 @@ form_flat {ts = ts} ed r = ap (form ed) (sym (append-nil ts)) ∙ flat_form ed t
 pub form_planned : {l : Bool} {s : Syntax} {ts : List Field} (ed : Edition) (nm : Name) (v : ℕ) (fs : List ℕ) → Good.Good l true s ts
     → form ed (planned nm v ts fs) ≡ planned nm (length_of_plan ed v (kept ts)) ts (added ed fs)
 unfolding form laid
-form_planned {ts = ts} edition_2 nm v fs r = ap (λ (x : List Field). len nm v ∷ x) (flat_form edition_2 tt r (filler fs ∷ []))
-form_planned {ts = ts} edition_1 nm v fs r =
+form_planned {ts = ts} Second nm v fs r = ap (λ (x : List Field). len nm v ∷ x) (flat_form Second tt r (filler fs ∷ []))
+form_planned {ts = ts} First nm v fs r =
     ap₂ (λ (k : ℕ) (x : List Field). len nm k ∷ x)
     (ap (λ (x : List ℕ). length x / 8) (flat_plain tt r (filler fs ∷ []) ∙ append-nil (kept ts)))
-    (flat_form edition_1 tt r (filler fs ∷ []))
+    (flat_form First tt r (filler fs ∷ []))
 
 -- an exact length and no filler are as any plan leaves them
 pub exact_ending : {l : Bool} (ts : List Field) → length (kept ts) % 8 ≡ 0 → Good.Ending l (length (kept ts) / 8) [] ts
@@ -142,9 +144,9 @@ good_form ed b c (Good.g_no r) f = Good.g_no (good_form ed b c r f.1)
 good_form ed b c (Good.g_need a w h r) f = let r' = good_form ed b c r f.2 in Good.g_need a w (Good.least w r' f.1) r'
 good_form ed b c (Good.g_most a v m h r) f = Good.g_most a v m h (good_form ed b c r f.2)
 good_form ed b c (Good.g_slots nm a m bs e h r) f = Good.g_slots nm a m bs e h (good_form ed b c r f.2)
-good_form edition_1 b c (Good.g_plan nm v fs {k} {ts} e r) f =
-    rw (form_planned edition_1 nm v fs r) (Good.g_plan nm (length (kept ts) / 8) [] (exact_ending ts e.fields) r)
-good_form edition_2 b c (Good.g_plan nm v fs {k} {ts} e r) f = rw (form_2 (planned nm v ts fs)) (Good.g_plan nm v fs e r)
+good_form First b c (Good.g_plan nm v fs {k} {ts} e r) f =
+    rw (form_planned First nm v fs r) (Good.g_plan nm (length (kept ts) / 8) [] (exact_ending ts e.fields) r)
+good_form Second b c (Good.g_plan nm v fs {k} {ts} e r) f = rw (form_2 (planned nm v ts fs)) (Good.g_plan nm v fs e r)
 good_form ed b c (Good.g_raw nm bs h a) f = Good.g_raw nm bs h a
 
 -- ---- entries
@@ -158,7 +160,7 @@ unfolding forms
 length_forms ed [] = refl
 length_forms ed (ts ∷ es) = ap suc (length_forms ed es)
 
-pub laids_forms : (ed : Edition) (es : List (List Field)) → laids edition_2 (forms ed es) ≡ laids ed es
+pub laids_forms : (ed : Edition) (es : List (List Field)) → laids Second (forms ed es) ≡ laids ed es
 unfolding forms laids
 laids_forms ed [] = refl
 laids_forms ed (ts ∷ es) = ap₂ (λ (x y : List ℕ). x ++ y) (kept_form ed ts) (laids_forms ed es)

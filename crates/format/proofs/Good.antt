@@ -9,8 +9,13 @@ use native.Mathlib.Omega.{arith}
 use lib.Dec.{T, leb, ltb, eqb, leb→le, le→leb}
 use lib.ListN.{length, replicate, length-append, length-replicate}
 use borrow.Author.Tests.{eq-eqb, ne_eqb, eqb-true, lt-ltb, ltb-true}
+use Rattle.format.specs.declared.Fault.{Fault}
+use Rattle.format.specs.declared.Fault.TheVariants.{ExtensionTooLarge}
+use Rattle.format.specs.Refusals.{fault_number}
 use Rattle.format.specs.Digits.{digits, Below, bytes_of}
-use Rattle.format.specs.Syntax.{Name, Sign, unsigned, signed, Syntax, end, field, when, need, at_most, slots, plan, raw, before, Field, num, flags, bytes, len, filler, Edition, edition_1, edition_2, added}
+use Rattle.format.specs.Syntax.{Name, Sign, unsigned, signed, Syntax, end, field, when, need, at_most, slots, plan, raw, before, Field, num, flags, bytes, len, filler, added}
+use Rattle.format.specs.declared.Edition.{Edition}
+use Rattle.format.specs.declared.Edition.TheVariants.{First, Second}
 use Rattle.format.specs.Body.{wholes, planned, padded, laid, plain, kept}
 use Rattle.format.specs.Ledger.{size, counted_bytes, ledger, raw_left, leaves}
 use Rattle.format.proofs.DigitLaws.{length_digits, length_bytes, below_append, digits_below, zeros_below}
@@ -77,9 +82,9 @@ pub data Good (l : Bool) : Bool → Syntax → List Field → Type 0 where
   g_field : {i : Bool} (g : Sign) (nm : Name) (w : ℕ) (k : ℕ → Syntax) (v : ℕ) {ts : List Field} → T (leb w (widest g)) → v < 2 ^ w → Good l i (k v) ts → Good l i (field g nm w k) (num g nm w v ∷ ts)
   g_yes : {i : Bool} {k m : Syntax} {ts : List Field} → Good l i k ts → Good l i (when true k m) ts
   g_no : {i : Bool} {k m : Syntax} {ts : List Field} → Good l i m ts → Good l i (when false k m) ts
-  g_need : {i : Bool} (a w : ℕ) {k : Syntax} {ts : List Field} → w ≤ length (kept ts) → Good l i k ts → Good l i (need a w k) ts
-  g_most : {i : Bool} (a v m : ℕ) {k : Syntax} {ts : List Field} → v ≤ m → Good l i k ts → Good l i (at_most a v m k) ts
-  g_slots : {i : Bool} (nm : Name) (a m : ℕ) (bs : List ℕ) {k : Syntax} {ts : List Field} → length bs ≡ m → Below 2 bs → Good l i k ts → Good l i (slots nm a m k) (flags nm bs ∷ ts)
+  g_need : {i : Bool} (a : Fault) (w : ℕ) {k : Syntax} {ts : List Field} → w ≤ length (kept ts) → Good l i k ts → Good l i (need a w k) ts
+  g_most : {i : Bool} (a : Fault) (v m : ℕ) {k : Syntax} {ts : List Field} → v ≤ m → Good l i k ts → Good l i (at_most a v m k) ts
+  g_slots : {i : Bool} (nm : Name) (a : Fault) (m : ℕ) (bs : List ℕ) {k : Syntax} {ts : List Field} → length bs ≡ m → Below 2 bs → Good l i k ts → Good l i (slots nm a m k) (flags nm bs ∷ ts)
   g_plan : (nm : Name) (v : ℕ) (fs : List ℕ) {k : Syntax} {ts : List Field} → Ending l v fs ts → Good l true k ts → Good l false (plan nm k) (planned nm v ts fs)
   g_raw : (nm : Name) (bs : List ℕ) → Below 2 bs → length bs % 8 ≡ 0 → Good l true (raw nm) (bytes nm bs ∷ [])
 
@@ -123,16 +128,16 @@ module _ (ed : Edition) where
 
 -- the kept body is no shorter than the plain one
 plain_short : (ts : List Field) → length (plain ts) ≤ length (kept ts)
-plain_short [] = omega (arith, laid_nil edition_1, laid_nil edition_2)
-plain_short (num g nm w v ∷ ts) = omega (arith, laid_num edition_1 g nm w v ts, laid_num edition_2 g nm w v ts, plain_short ts)
-plain_short (flags nm bs ∷ ts) = omega (arith, laid_flags edition_1 nm bs ts, laid_flags edition_2 nm bs ts, plain_short ts)
-plain_short (bytes nm bs ∷ ts) = omega (arith, laid_bytes edition_1 nm bs ts, laid_bytes edition_2 nm bs ts, plain_short ts)
-plain_short (len nm v ∷ ts) = omega (arith, laid_len edition_1 nm v ts, laid_len edition_2 nm v ts, plain_short ts)
-plain_short (filler fs ∷ ts) = omega (arith, laid_filler edition_1 fs ts, laid_filler edition_2 fs ts, plain_short ts)
+plain_short [] = omega (arith, laid_nil First, laid_nil Second)
+plain_short (num g nm w v ∷ ts) = omega (arith, laid_num First g nm w v ts, laid_num Second g nm w v ts, plain_short ts)
+plain_short (flags nm bs ∷ ts) = omega (arith, laid_flags First nm bs ts, laid_flags Second nm bs ts, plain_short ts)
+plain_short (bytes nm bs ∷ ts) = omega (arith, laid_bytes First nm bs ts, laid_bytes Second nm bs ts, plain_short ts)
+plain_short (len nm v ∷ ts) = omega (arith, laid_len First nm v ts, laid_len Second nm v ts, plain_short ts)
+plain_short (filler fs ∷ ts) = omega (arith, laid_filler First fs ts, laid_filler Second fs ts, plain_short ts)
 
 pub laid_short : (ed : Edition) (ts : List Field) → length (laid ed ts) ≤ length (kept ts)
-laid_short edition_1 ts = plain_short ts
-laid_short edition_2 ts = omega arith
+laid_short First ts = plain_short ts
+laid_short Second ts = omega arith
 
 -- kept bodies and ledgers are joined as their fields are
 pub kept_append : (xs ys : List Field) → kept (xs ++ ys) ≡ kept xs ++ kept ys
@@ -163,23 +168,23 @@ unfolding ledger
 ledger_filler ed ts fs = ledger_append ed ts (filler fs ∷ []) ∙ ap (λ (x : List ℕ). ledger ed ts ++ x) (append-nil (added ed (counted_bytes fs)))
 
 pub kept_planned : (nm : Name) (v : ℕ) (ts : List Field) (fs : List ℕ) → length (kept (planned nm v ts fs)) ≡ 12 + (length (kept ts) + length fs)
-kept_planned nm v ts fs = laid_len edition_2 nm v (ts ++ (filler fs ∷ [])) ∙ ap (λ (k : ℕ). 12 + k) (ap length (kept_filler ts fs) ∙ length-append (kept ts) fs)
+kept_planned nm v ts fs = laid_len Second nm v (ts ++ (filler fs ∷ [])) ∙ ap (λ (k : ℕ). 12 + k) (ap length (kept_filler ts fs) ∙ length-append (kept ts) fs)
 
 -- at most four bytes more in the second edition, and the filler's
 ledger_planned : (ed : Edition) (nm : Name) (v : ℕ) (ts : List Field) (fs : List ℕ) → length (ledger ed (planned nm v ts fs)) ≤ length (ledger ed ts) + 4 + length fs / 8
 unfolding ledger
-ledger_planned edition_1 nm v ts fs = omega (arith, ap length (ledger_filler edition_1 ts fs), length-append (ledger edition_1 ts) [])
-ledger_planned edition_2 nm v ts fs =
+ledger_planned First nm v ts fs = omega (arith, ap length (ledger_filler First ts fs), length-append (ledger First ts) [])
+ledger_planned Second nm v ts fs =
     let d : List ℕ = digits 256 2 v in
     let c : List ℕ = digits 256 2 (length fs / 8) in
     let y : List ℕ = bytes_of (length fs / 8) fs in
-    let t : List ℕ = ledger edition_2 (ts ++ (filler fs ∷ [])) in
+    let t : List ℕ = ledger Second (ts ++ (filler fs ∷ [])) in
     omega (
       arith,
       length-append d t,
       length_digits 256 2 v,
-      ap length (ledger_filler edition_2 ts fs),
-      length-append (ledger edition_2 ts) (c ++ y),
+      ap length (ledger_filler Second ts fs),
+      length-append (ledger Second ts) (c ++ y),
       length-append c y,
       length_digits 256 2 (length fs / 8),
       length_bytes (length fs / 8) fs,
@@ -226,12 +231,12 @@ least_zero (raw nm) = tt
 
 pub least : {l i : Bool} {s : Syntax} {ts : List Field} (m : ℕ) → Good l i s ts → Least m s → m ≤ length (kept ts)
 least m g_end h = omega (arith, leb→le m 0 h)
-least m (g_field g nm w k v {ts} _ _ r) h = omega (arith, laid_num edition_2 g nm w v ts, least (m - w) r (h v))
+least m (g_field g nm w k v {ts} _ _ r) h = omega (arith, laid_num Second g nm w v ts, least (m - w) r (h v))
 least m (g_yes r) h = least m r h.0
 least m (g_no r) h = least m r h.1
 least m (g_need a w _ r) h = least m r h
 least m (g_most a v j _ r) h = least m r h
-least m (g_slots nm a j bs {ts} e _ r) h = omega (arith, laid_flags edition_2 nm bs ts, ap wholes e, least (m - 8 * wholes j) r h)
+least m (g_slots nm a j bs {ts} e _ r) h = omega (arith, laid_flags Second nm bs ts, ap wholes e, least (m - 8 * wholes j) r h)
 least m (g_plan nm v fs {ts} _ r) h = omega (arith, kept_planned nm v ts fs, least (m - 12) r h)
 least m (g_raw nm bs _ _) h = omega (arith, leb→le m 0 h)
 
@@ -268,9 +273,9 @@ abbrev pub Fine : Bool → ℕ → ℕ → Syntax → Type 0
 Fine i b c end = (b % 8 ≡ 0) × T (leb (4 * c) b)
 Fine i b c (field g nm w k) = T (leb w (widest g)) × ((v : ℕ) → Fine i (b + w) (c + size g w) (k v))
 Fine i b c (when t k l) = Fine i b c k × Fine i b c l
-Fine i b c (need a w k) = T (ltb 0 a) × Least w k × Fine i b c k
-Fine i b c (at_most a v m k) = (a ≡ 30) × (m ≡ 299) × Fine i b c k
-Fine i b c (slots nm a m k) = T (ltb 0 a) × (b % 8 ≡ 0) × Fine i b c k
+Fine i b c (need a w k) = T (ltb 0 (fault_number a)) × Least w k × Fine i b c k
+Fine i b c (at_most a v m k) = (a ≡ ExtensionTooLarge) × (m ≡ 299) × Fine i b c k
+Fine i b c (slots nm a m k) = T (ltb 0 (fault_number a)) × (b % 8 ≡ 0) × Fine i b c k
 Fine i b c (plan nm k) = (T i → ⊥) × ((b + 12) % 8 ≡ 0) × Fine true (b + 12) (c + 4) k
 Fine i b c (raw nm) = T i × (b % 8 ≡ 0) × T (leb (4 * (c + 2)) b)
 
@@ -290,23 +295,23 @@ fine_more i b c b' c' (raw nm) e l f = (f.0, sym e ∙ f.1, le→leb (4 * (c' + 
 pub whole : {l i : Bool} {s : Syntax} {ts : List Field} (ed : Edition) (b c : ℕ) → Good l i s ts → Fine i b c s
     → ((b + length (kept ts)) % 8 ≡ 0) × (4 * (c + length (ledger ed ts)) ≤ b + length (kept ts))
 unfolding ledger
-whole ed b c g_end f = (omega (arith, f.0, laid_nil edition_2), omega (arith, leb→le (4 * c) b f.1, laid_nil edition_2))
+whole ed b c g_end f = (omega (arith, f.0, laid_nil Second), omega (arith, leb→le (4 * c) b f.1, laid_nil Second))
 whole ed b c (g_field g nm w k v {ts} _ _ r) f =
     let o = whole ed (b + w) (c + size g w) r (f.1 v) in
-    (omega (arith, laid_num edition_2 g nm w v ts), simp (length-append, length_digits) (omega (arith, laid_num edition_2 g nm w v ts)))
+    (omega (arith, laid_num Second g nm w v ts), simp (length-append, length_digits) (omega (arith, laid_num Second g nm w v ts)))
 whole ed b c (g_yes r) f = whole ed b c r f.0
 whole ed b c (g_no r) f = whole ed b c r f.1
 whole ed b c (g_need a w _ r) f = whole ed b c r f.2
 whole ed b c (g_most a v m _ r) f = whole ed b c r f.2
 whole ed b c (g_slots nm a m bs {ts} _ _ r) f =
     let o = whole ed b c r f.2 in
-    (omega (arith, laid_flags edition_2 nm bs ts), simp (length-append, length_bytes) (omega (arith, laid_flags edition_2 nm bs ts)))
+    (omega (arith, laid_flags Second nm bs ts), simp (length-append, length_bytes) (omega (arith, laid_flags Second nm bs ts)))
 whole ed b c (g_plan nm v fs {ts} e r) f =
     let o = whole ed (b + 12) (c + 4) r f.2 in
     let k = kept_planned nm v ts fs in
     (omega (arith, e.whole), omega (arith, e.whole, ledger_planned ed nm v ts fs))
 whole ed b c (g_raw nm bs _ a) f =
-    let p : length (kept (bytes nm bs ∷ [])) ≡ length bs + 0 = laid_bytes edition_2 nm bs [] ∙ ap (λ (k : ℕ). length bs + k) (laid_nil edition_2) in
+    let p : length (kept (bytes nm bs ∷ [])) ≡ length bs + 0 = laid_bytes Second nm bs [] ∙ ap (λ (k : ℕ). length bs + k) (laid_nil Second) in
     (omega (arith, f.1), simp (length-append, length_digits, length_bytes) (omega (arith, leb→le (4 * (c + 2)) b f.2)))
 
 -- ---- a description before it had its tests is as fine

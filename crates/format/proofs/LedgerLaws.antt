@@ -12,9 +12,12 @@ use lib.Pow.{pow_mono, pow_pos, high_ones}
 use lib.Seq.{take_at, drop_at, length-take-le, drop-append_seam, take-append_seam}
 use borrow.Author.Tests.{leb-true, eq-eqb, eqb-true}
 use Rattle.format.specs.Digits.{digits, value, Below, bits_of, bytes_of}
-use Rattle.format.specs.Syntax.{Name, Sign, unsigned, signed, Syntax, end, field, when, need, at_most, slots, plan, raw, before, Field, num, flags, bytes, Edition, edition_1, edition_2, Parse, got, refused, and_then, push}
+use Rattle.format.specs.Syntax.{Name, Sign, unsigned, signed, Syntax, end, field, when, need, at_most, slots, plan, raw, before, Field, num, flags, bytes, Parse, got, refused, and_then, push}
+use Rattle.format.specs.declared.Edition.{Edition}
+use Rattle.format.specs.declared.Edition.TheVariants.{First, Second}
 use Rattle.format.specs.Body.{wholes, planned, padded, plain, kept}
 use Rattle.format.specs.Ledger.{size, widened, counted_bytes, ledger, grant, read_counted_bytes, leaves, read_filler, read_ledger}
+use Rattle.format.specs.declared.Fault.TheVariants.{PlanLengthMisfit}
 use Rattle.format.proofs.DigitLaws.{length_digits, value_digits, digits_take, below_take, below_drop, below_append, bits_bytes, length_bytes, bytes_bits, length_bits, bits_below, zeros_below, value_zeros, value_zero, has_at, back_of}
 use Rattle.format.proofs.ParseLaws.{cond_got, then_got, push_got, grant_got}
 use Rattle.format.proofs.Good
@@ -125,22 +128,22 @@ bytes_got n bs k h e =
 filler_again : (l : Bool) (n : ℕ) (nm : Name) (v : ℕ) (ts : List Field) (fs rest : List ℕ) → Good.Ending l v fs ts → length fs / 8 < 256 ^ 2
     → read_filler l n nm v ts (counted_bytes fs ++ rest) ≡ got (planned nm v ts fs) rest
 filler_again l n nm v ts fs rest e m =
-    count_again n fs rest (λ gs r. cond (leaves l v ts (length gs)) (got (planned nm v ts gs) r) (refused 28 (n - length (drop 2 (counted_bytes fs ++ rest))) 0)) e.below e.whole m
+    count_again n fs rest (λ gs r. cond (leaves l v ts (length gs)) (got (planned nm v ts gs) r) (refused PlanLengthMisfit (n - length (drop 2 (counted_bytes fs ++ rest))) 0)) e.below e.whole m
     ∙ rw (Good.leaves_true e.leaves)
 
 -- ---- good fields written are read again, as far as the edition has them
 
 module _ (n : ℕ) where
   relet_1 : {l : Bool} {k : Syntax} {ts : List Field} (nm : Name) (v : ℕ) (fs rest : List ℕ) → Good.Good l true k ts
-      → read_ledger edition_1 l n k (ledger edition_1 ts ++ rest) ≡ got (form edition_1 ts) rest
-      → read_ledger edition_1 l n (plan nm k) (ledger edition_1 (planned nm v ts fs) ++ rest) ≡ got (form edition_1 (planned nm v ts fs)) rest
+      → read_ledger First l n k (ledger First ts ++ rest) ≡ got (form First ts) rest
+      → read_ledger First l n (plan nm k) (ledger First (planned nm v ts fs) ++ rest) ≡ got (form First (planned nm v ts fs)) rest
   unfolding read_ledger ledger
   relet_1 {ts = ts} nm v fs rest r q =
-      rw (Good.ledger_filler edition_1 ts fs, append-nil (ledger edition_1 ts), q ∙ ap (λ (us : List Field). got us rest) (form_flat edition_1 r), form_planned edition_1 nm v fs r, flat_kept tt r)
+      rw (Good.ledger_filler First ts fs, append-nil (ledger First ts), q ∙ ap (λ (us : List Field). got us rest) (form_flat First r), form_planned First nm v fs r, flat_kept tt r)
 
   relet_2 : {l : Bool} (k : Syntax) {ts : List Field} (nm : Name) (v : ℕ) (fs rest : List ℕ) → Good.Ending l v fs ts → length (kept (planned nm v ts fs)) ≤ 32768
-      → ((r : List ℕ) → read_ledger edition_2 l n k (ledger edition_2 ts ++ r) ≡ got (form edition_2 ts) r)
-      → read_ledger edition_2 l n (plan nm k) (ledger edition_2 (planned nm v ts fs) ++ rest) ≡ got (form edition_2 (planned nm v ts fs)) rest
+      → ((r : List ℕ) → read_ledger Second l n k (ledger Second ts ++ r) ≡ got (form Second ts) r)
+      → read_ledger Second l n (plan nm k) (ledger Second (planned nm v ts fs) ++ rest) ≡ got (form Second (planned nm v ts fs)) rest
   unfolding read_ledger ledger
   relet_2 {l} k {ts} nm v fs rest e m q =
       let d : List ℕ = digits 256 2 v in
@@ -148,11 +151,11 @@ module _ (n : ℕ) where
       let t : length (kept (planned nm v ts fs)) ≡ 12 + (length (kept ts) + length fs) = Good.kept_planned nm v ts fs in
       let hv : v < 2 ^ 12 = small v (length (kept ts) + length fs) e.wide (omega arith) in
       let more : List ℕ = counted_bytes fs ++ rest in
-      let after : List ℕ = ledger edition_2 ts ++ more in
+      let after : List ℕ = ledger Second ts ++ more in
       rw (
-        Good.ledger_filler edition_2 ts fs,
-        append_assoc d (ledger edition_2 ts ++ counted_bytes fs) rest,
-        append_assoc (ledger edition_2 ts) (counted_bytes fs) rest,
+        Good.ledger_filler Second ts fs,
+        append_assoc d (ledger Second ts ++ counted_bytes fs) rest,
+        append_assoc (ledger Second ts) (counted_bytes fs) rest,
         take_at d after 2 ld,
         drop_at d after 2 ld,
         has_at 2 d after ld,
@@ -167,8 +170,8 @@ module _ (n : ℕ) where
   relet_plan : {l : Bool} {k : Syntax} {ts : List Field} (ed : Edition) (nm : Name) (v : ℕ) (fs rest : List ℕ) → Good.Ending l v fs ts → Good.Good l true k ts
       → length (kept (planned nm v ts fs)) ≤ 32768 → ((r : List ℕ) → read_ledger ed l n k (ledger ed ts ++ r) ≡ got (form ed ts) r)
       → read_ledger ed l n (plan nm k) (ledger ed (planned nm v ts fs) ++ rest) ≡ got (form ed (planned nm v ts fs)) rest
-  relet_plan edition_1 nm v fs rest e r m q = relet_1 nm v fs rest r (q rest)
-  relet_plan {k = k} edition_2 nm v fs rest e r m q = relet_2 k nm v fs rest e m q
+  relet_plan First nm v fs rest e r m q = relet_1 nm v fs rest r (q rest)
+  relet_plan {k = k} Second nm v fs rest e r m q = relet_2 k nm v fs rest e m q
 
 module _ (ed : Edition) (n : ℕ) where
   pub relet : {l i : Bool} {s : Syntax} {ts : List Field} (rest : List ℕ) → Good.Good l i s ts → length (kept ts) ≤ 32768
@@ -180,7 +183,7 @@ module _ (ed : Edition) (n : ℕ) where
       let x : ℕ = widened g w v in
       let d : List ℕ = digits 256 q x in
       let l : length d ≡ q = length_digits 256 q x in
-      let t : length (kept (num g nm w v ∷ ts)) ≡ w + length (kept ts) = Good.laid_num edition_2 g nm w v ts in
+      let t : length (kept (num g nm w v ∷ ts)) ≡ w + length (kept ts) = Good.laid_num Second g nm w v ts in
       rw (
         append_assoc d (ledger ed ts) rest,
         take_at d (ledger ed ts ++ rest) q l,
@@ -201,7 +204,7 @@ module _ (ed : Edition) (n : ℕ) where
       let y : List ℕ = bytes_of q (bs ++ z) in
       let ly : length y ≡ q = length_bytes q (bs ++ z) in
       let b : bits_of y ≡ bs ++ z = bits_bytes q (bs ++ z) (Good.length_padded bs) (below_append 2 bs z h (zeros_below (8 * q - length bs))) in
-      let t : length (kept (flags nm bs ∷ ts)) ≡ 8 * q + length (kept ts) = Good.laid_flags edition_2 nm bs ts in
+      let t : length (kept (flags nm bs ∷ ts)) ≡ 8 * q + length (kept ts) = Good.laid_flags Second nm bs ts in
       rw (
         ← c,
         append_assoc y (ledger ed ts) rest,
@@ -218,7 +221,7 @@ module _ (ed : Edition) (n : ℕ) where
       let t : length (kept (planned nm v ts fs)) ≡ 12 + (length (kept ts) + length fs) = Good.kept_planned nm v ts fs in
       relet_plan n ed nm v fs rest e r m (λ o. relet o r (omega arith))
   relet rest (Good.g_raw nm bs h a) m =
-      rw (append-nil (counted_bytes bs)) (count_again n bs rest (λ xs r. got (bytes nm xs ∷ []) r) h a (omega (arith, m, Good.laid_bytes edition_2 nm bs [])))
+      rw (append-nil (counted_bytes bs)) (count_again n bs rest (λ xs r. got (bytes nm xs ∷ []) r) h a (omega (arith, m, Good.laid_bytes Second nm bs [])))
 
 -- ---- tests make no difference to the reading
 
@@ -236,12 +239,12 @@ read_before ed l n (at_most a v m k) bs = read_before ed l n k bs
 read_before ed l n (slots nm a m k) bs =
     let packed : List ℕ = bits_of (take (wholes m) bs) in
     ap (λ (p : Parse (List Field)). grant n (wholes m) (eqb (value 2 (drop m packed)) 0) bs (push (flags nm (take m packed)) p)) (read_before ed l n k (drop (wholes m) bs))
-read_before edition_1 l n (plan nm k) bs =
-    ap (λ (p : Parse (List Field)). and_then p (λ ts rest. got (planned nm (length (plain ts) / 8) ts []) rest)) (read_before edition_1 l n k bs)
-read_before edition_2 l n (plan nm k) bs =
+read_before First l n (plan nm k) bs =
+    ap (λ (p : Parse (List Field)). and_then p (λ ts rest. got (planned nm (length (plain ts) / 8) ts []) rest)) (read_before First l n k bs)
+read_before Second l n (plan nm k) bs =
     let x : ℕ = value 256 (take 2 bs) in
     let v : ℕ = x % 2 ^ 12 in
-    ap (λ (p : Parse (List Field)). grant n 2 (eqb v x) bs (and_then p (λ ts rest. read_filler l n nm v ts rest))) (read_before edition_2 l n k (drop 2 bs))
+    ap (λ (p : Parse (List Field)). grant n 2 (eqb v x) bs (and_then p (λ ts rest. read_filler l n nm v ts rest))) (read_before Second l n k (drop 2 bs))
 read_before ed l n (raw nm) bs = refl
 
 -- ---- what is read is good but for the tests, and was written so
@@ -269,7 +272,7 @@ module _ (n : ℕ) where
   filler_got : {us : List Field} {rest : List ℕ} (l : Bool) (nm : Name) (v : ℕ) (ts : List Field) (bs : List ℕ) → v < 2 ^ 12 → length (kept ts) % 8 ≡ 0 → Below 256 bs → read_filler l n nm v ts bs ≡ got us rest
       → (fs : List ℕ) × (us ≡ planned nm v ts fs) × Good.Ending l v fs ts × (counted_bytes fs ++ rest ≡ bs) × Below 256 rest
   filler_got {us} {rest} l nm v ts bs hv w8 h e =
-      let k : List ℕ → List ℕ → Parse (List Field) = λ gs r. cond (leaves l v ts (length gs)) (got (planned nm v ts gs) r) (refused 28 (n - length (drop 2 bs)) 0) in
+      let k : List ℕ → List ℕ → Parse (List Field) = λ gs r. cond (leaves l v ts (length gs)) (got (planned nm v ts gs) r) (refused PlanLengthMisfit (n - length (drop 2 bs)) 0) in
       let o = bytes_got n bs k h e in
       let p = cond_got (leaves l v ts (length o.what)) _ _ _ _ o.goes in
       let q : got (planned nm v ts o.what) o.rest ≡ got us rest = p.1 in
@@ -284,26 +287,26 @@ module _ (n : ℕ) where
       (o.what, cc, a, ap (λ (x : List ℕ). counted_bytes o.what ++ x) (sym z) ∙ o.back, rw z at o.below)
 
   found_1 : {ts us : List Field} {rest bs : List ℕ} (l i : Bool) (nm : Name) (k : Syntax) → (T i → ⊥) → length (kept us) % 8 ≡ 0 → ts ≡ planned nm (length (plain us) / 8) us []
-      → Found edition_1 l true k bs us rest → Found edition_1 l i (plan nm k) bs ts rest
+      → Found First l true k bs us rest → Found First l i (plan nm k) bs ts rest
   unfolding ledger
   found_1 {ts} {us} {rest} l i nm k ni w8 e r =
       let z : plain us ≡ kept us = flat_kept tt r.good in
       rw (e, z) (record {
         good = Good.good_plan nm i (length (kept us) / 8) [] ni (exact_ending us w8) r.good;
-        same = form_planned edition_1 nm (length (kept us) / 8) [] r.good;
-        back = rw (Good.ledger_filler edition_1 us [], append-nil (ledger edition_1 us)) r.back;
+        same = form_planned First nm (length (kept us) / 8) [] r.good;
+        back = rw (Good.ledger_filler First us [], append-nil (ledger First us)) r.back;
         below = r.below;
       })
 
   found_2 : {ts us : List Field} {rest mid bs : List ℕ} (l i : Bool) (nm : Name) (k : Syntax) (v : ℕ) (fs : List ℕ) → (T i → ⊥) → ts ≡ planned nm v us fs → Good.Ending l v fs us
-      → counted_bytes fs ++ rest ≡ mid → Below 256 rest → digits 256 2 v ≡ take 2 bs → Found edition_2 l true k (drop 2 bs) us mid → Found edition_2 l i (plan nm k) bs ts rest
+      → counted_bytes fs ++ rest ≡ mid → Below 256 rest → digits 256 2 v ≡ take 2 bs → Found Second l true k (drop 2 bs) us mid → Found Second l i (plan nm k) bs ts rest
   unfolding ledger
   found_2 {ts} {us} {rest} {mid} {bs} l i nm k v fs ni e n' c h d r =
       rw e (record {
         good = Good.good_plan nm i v fs ni n' r.good;
         same = form_2 (planned nm v us fs);
-        back = rw (Good.ledger_filler edition_2 us fs)
-            (back_of 2 (digits 256 2 v) (ledger edition_2 us ++ counted_bytes fs) rest bs d (append_assoc (ledger edition_2 us) (counted_bytes fs) rest ∙ ap (λ (x : List ℕ). ledger edition_2 us ++ x) c ∙ r.back));
+        back = rw (Good.ledger_filler Second us fs)
+            (back_of 2 (digits 256 2 v) (ledger Second us ++ counted_bytes fs) rest bs d (append_assoc (ledger Second us) (counted_bytes fs) rest ∙ ap (λ (x : List ℕ). ledger Second us ++ x) c ∙ r.back));
         below = h;
       })
 
@@ -348,22 +351,22 @@ module _ (n : ℕ) where
         back = back_of q (bytes_of (wholes (length fs)) (padded fs)) (ledger ed o.0) rest bs (rw s.0 s.1) r.back;
         below = r.below;
       })
-  found edition_1 l i b c (plan nm k) bs {ts} {rest} f h e =
-      let o = then_got (read_ledger edition_1 l n k bs) (λ us r. got (planned nm (length (plain us) / 8) us []) r) e in
+  found First l i b c (plan nm k) bs {ts} {rest} f h e =
+      let o = then_got (read_ledger First l n k bs) (λ us r. got (planned nm (length (plain us) / 8) us []) r) e in
       let us : List Field = o.0 in
       let q : got (planned nm (length (plain us) / 8) us []) o.1 ≡ got ts rest = o.3 in
       let z : o.1 ≡ rest = cc in
-      let r : Found edition_1 l true (before k) bs us rest = found edition_1 l true (b + 12) (c + 4) k bs f.2 h (rw z at o.2) in
-      found_1 l i nm (before k) f.0 (omega (arith, f.1, Good.whole edition_1 (b + 12) (c + 4) r.good (Good.fine_before true (b + 12) (c + 4) k f.2))) (cc) r
-  found edition_2 l i b c (plan nm k) bs {ts} {rest} f h e =
+      let r : Found First l true (before k) bs us rest = found First l true (b + 12) (c + 4) k bs f.2 h (rw z at o.2) in
+      found_1 l i nm (before k) f.0 (omega (arith, f.1, Good.whole First (b + 12) (c + 4) r.good (Good.fine_before true (b + 12) (c + 4) k f.2))) (cc) r
+  found Second l i b c (plan nm k) bs {ts} {rest} f h e =
       let x : ℕ = value 256 (take 2 bs) in
       let v : ℕ = x % 2 ^ 12 in
       let go_on : List Field → List ℕ → Parse (List Field) = λ us r. read_filler l n nm v us r in
-      let p = grant_got n 2 (eqb v x) bs (and_then (read_ledger edition_2 l n k (drop 2 bs)) go_on) e in
-      let o = then_got (read_ledger edition_2 l n k (drop 2 bs)) go_on p.2 in
+      let p = grant_got n 2 (eqb v x) bs (and_then (read_ledger Second l n k (drop 2 bs)) go_on) e in
+      let o = then_got (read_ledger Second l n k (drop 2 bs)) go_on p.2 in
       let us : List Field = o.0 in
-      let r : Found edition_2 l true (before k) (drop 2 bs) us o.1 = found edition_2 l true (b + 12) (c + 4) k (drop 2 bs) f.2 (below_drop 256 2 bs h) o.2 in
-      let y = filler_got l nm v us o.1 (mod-lt x (pow_pos 12)) (omega (arith, f.1, Good.whole edition_2 (b + 12) (c + 4) r.good (Good.fine_before true (b + 12) (c + 4) k f.2))) r.below o.3 in
+      let r : Found Second l true (before k) (drop 2 bs) us o.1 = found Second l true (b + 12) (c + 4) k (drop 2 bs) f.2 (below_drop 256 2 bs h) o.2 in
+      let y = filler_got l nm v us o.1 (mod-lt x (pow_pos 12)) (omega (arith, f.1, Good.whole Second (b + 12) (c + 4) r.good (Good.fine_before true (b + 12) (c + 4) k f.2))) r.below o.3 in
       let d : digits 256 2 v ≡ take 2 bs = ap (digits 256 2) (eqb-true v x p.1) ∙ digits_take 256 2 bs h p.0 in
       found_2 l i nm (before k) v y.0 f.0 y.1 y.2 y.3 y.4 d r
   found ed l i b c (raw nm) bs {ts} {rest} f h e =

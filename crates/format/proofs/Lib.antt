@@ -21,3 +21,4 @@ pub mod AgreeLaws
 pub mod PlanLaws
 pub mod IdLaws
 pub mod SamplesHold
+pub mod Passed

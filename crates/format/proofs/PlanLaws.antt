@@ -11,11 +11,14 @@ use lib.ListN.{length, take, drop}
 use Prim.Native.String as text
 use borrow.Author.Tests.{eq-eqb, ne_eqb, eqb-true, eqb-false}
 use Rattle.format.specs.Digits.{value, bits_of}
-use Rattle.format.specs.Syntax.{Name, Sign, unsigned, Syntax, end, field, when, need, at_most, slots, plan, raw, before, Field, num, flags, bytes, len, filler, Edition, edition_2, Parse, got, refused, and_then, push}
+use Rattle.format.specs.Syntax.{Name, Sign, unsigned, Syntax, end, field, when, need, at_most, slots, plan, raw, before, Field, num, flags, bytes, len, filler, Parse, got, refused, and_then, push}
+use Rattle.format.specs.declared.Edition.{Edition}
+use Rattle.format.specs.declared.Edition.TheVariants.{Second}
 use Rattle.format.specs.Tables.{bits, u, clock, mode, hopping}
 use Rattle.format.specs.Body.{planned, kept}
 use Rattle.format.specs.Ledger.{raw_left, leaves, read_filler, read_ledger}
 use Rattle.format.specs.ByName.{first_by, the}
+use Rattle.format.specs.declared.Fault.TheVariants.{LedgerMisfit, ValueMisfit, PlanLengthMisfit}
 use Rattle.format.proofs.ParseLaws.{push_got, grant_got}
 use Rattle.format.proofs.Good
 
@@ -29,9 +32,9 @@ behind_length k (len nm v ∷ ts) rest = got [] rest
 behind_length k (filler fs ∷ ts) rest = got [] rest
 
 pub plan_field : (last : Bool) (n : ℕ) (nm : Name) (k : Syntax) (bs : List ℕ)
-    → read_ledger edition_2 last n (plan nm k) bs ≡ and_then (read_ledger edition_2 last n (field unsigned nm 12 (λ _. k)) bs) (behind_length (read_filler last n nm))
+    → read_ledger Second last n (plan nm k) bs ≡ and_then (read_ledger Second last n (field unsigned nm 12 (λ _. k)) bs) (behind_length (read_filler last n nm))
 unfolding read_ledger
-plan_field last n nm k bs = go (leb 2 (length bs)) (eqb v x) (read_ledger edition_2 last n k (drop 2 bs))
+plan_field last n nm k bs = go (leb 2 (length bs)) (eqb v x) (read_ledger Second last n k (drop 2 bs))
   where
     x : ℕ
     x = value 256 (take 2 bs)
@@ -40,8 +43,8 @@ plan_field last n nm k bs = go (leb 2 (length bs)) (eqb v x) (read_ledger editio
     v = x % 2 ^ 12
 
     go : (t u : Bool) (p : Parse (List Field))
-        → cond t (cond u (and_then p (λ ts rest. read_filler last n nm v ts rest)) (refused 25 (n - length bs) 0)) (refused 23 (n - length bs) 0)
-        ≡ and_then (cond t (cond u (push (num unsigned nm 12 v) p) (refused 25 (n - length bs) 0)) (refused 23 (n - length bs) 0)) (behind_length (read_filler last n nm))
+        → cond t (cond u (and_then p (λ ts rest. read_filler last n nm v ts rest)) (refused ValueMisfit (n - length bs) 0)) (refused LedgerMisfit (n - length bs) 0)
+        ≡ and_then (cond t (cond u (push (num unsigned nm 12 v) p) (refused ValueMisfit (n - length bs) 0)) (refused LedgerMisfit (n - length bs) 0)) (behind_length (read_filler last n nm))
     go true true (got ts rest) = refl
     go true true (refused a b c) = refl
     go true false p = refl
@@ -57,8 +60,8 @@ behind_raw k (len nm v ∷ ts) rest = got [] rest
 behind_raw k (filler fs ∷ ts) rest = got [] rest
 
 pub filler_raw : (last : Bool) (n : ℕ) (nm : Name) (v : ℕ) (ts : List Field) (bs : List ℕ)
-    → read_filler last n nm v ts bs ≡ and_then (read_ledger edition_2 last n (raw "filler") bs)
-    (behind_raw (λ fs rest. cond (leaves last v ts (length fs)) (got (planned nm v ts fs) rest) (refused 28 (n - length (drop 2 bs)) 0)))
+    → read_filler last n nm v ts bs ≡ and_then (read_ledger Second last n (raw "filler") bs)
+    (behind_raw (λ fs rest. cond (leaves last v ts (length fs)) (got (planned nm v ts fs) rest) (refused PlanLengthMisfit (n - length (drop 2 bs)) 0)))
 unfolding read_ledger
 filler_raw last n nm v ts bs = go (leb 2 (length bs)) (leb (value 256 (take 2 bs)) (length (drop 2 bs)))
   where
@@ -69,11 +72,11 @@ filler_raw last n nm v ts bs = go (leb 2 (length bs)) (leb (value 256 (take 2 bs
     after = drop 2 bs
 
     k : List ℕ → List ℕ → Parse (List Field)
-    k fs rest = cond (leaves last v ts (length fs)) (got (planned nm v ts fs) rest) (refused 28 (n - length (drop 2 bs)) 0)
+    k fs rest = cond (leaves last v ts (length fs)) (got (planned nm v ts fs) rest) (refused PlanLengthMisfit (n - length (drop 2 bs)) 0)
 
     go : (t u : Bool)
-        → cond t (cond u (k (bits_of (take q after)) (drop q after)) (refused 23 (n - length after) 0)) (refused 23 (n - length bs) 0)
-        ≡ and_then (cond t (cond u (got (bytes "filler" (bits_of (take q after)) ∷ []) (drop q after)) (refused 23 (n - length after) 0)) (refused 23 (n - length bs) 0)) (behind_raw k)
+        → cond t (cond u (k (bits_of (take q after)) (drop q after)) (refused LedgerMisfit (n - length after) 0)) (refused LedgerMisfit (n - length bs) 0)
+        ≡ and_then (cond t (cond u (got (bytes "filler" (bits_of (take q after)) ∷ []) (drop q after)) (refused LedgerMisfit (n - length after) 0)) (refused LedgerMisfit (n - length bs) 0)) (behind_raw k)
     go true true = refl
     go true false = refl
     go false u = refl
@@ -108,7 +111,7 @@ mode_left zero h (Good.g_yes r) w f = raw_free (λ _ _ _ _ _ _. tt) r w f
 mode_left (suc zero) h (Good.g_no (Good.g_yes r)) w f = raw_free (λ _ _ _ _. tt) r w f
 mode_left (suc (suc zero)) h (Good.g_no (Good.g_no (Good.g_yes r))) w f = raw_free (λ _ _ _ _ _ _ _ _ _ _ _ _. tt) r w f
 mode_left (suc (suc (suc zero))) h (Good.g_no (Good.g_no (Good.g_no (Good.g_raw nm bs _ _)))) w f =
-    let z : length bs ≡ length (kept (bytes nm bs ∷ [])) = omega (arith, Good.laid_bytes edition_2 nm bs [], Good.laid_nil edition_2) in
+    let z : length bs ≡ length (kept (bytes nm bs ∷ [])) = omega (arith, Good.laid_bytes Second nm bs [], Good.laid_nil Second) in
     ap (λ (k : ℕ). cond w (eqb f 0) (eqb k 0)) z
 mode_left (suc (suc (suc (suc m)))) h r w f = absurd (omega arith)
 
@@ -140,7 +143,7 @@ record Behind (l i : Bool) (n : ℕ) (s : Syntax) (ts : List Field) : Type 0 whe
 line_of : {l i : Bool} (nm : Name) (w : ℕ) (s : Syntax) {ts : List Field} → Good.Good l i (u nm w s) ts → Behind l i w s ts
 line_of nm w s r =
     let o = field_of r in
-    record { us = o.us; raws = λ t f. ap (raw_left t f) o.is; size = ap (λ (x : List Field). length (kept x)) o.is ∙ Good.laid_num edition_2 unsigned nm w o.v o.us; good = o.good }
+    record { us = o.us; raws = λ t f. ap (raw_left t f) o.is; size = ap (λ (x : List Field). length (kept x)) o.is ∙ Good.laid_num Second unsigned nm w o.v o.us; good = o.good }
 
 join : {l i : Bool} {n m : ℕ} {s s₁ : Syntax} {ts : List Field} (x : Behind l i n s ts) → Behind l i m s₁ x.us → Behind l i (n + m) s₁ ts
 join x y = record { us = y.us; raws = λ t f. x.raws t f ∙ y.raws t f; size = omega (arith, x.size, y.size); good = y.good }
@@ -170,7 +173,7 @@ hopping_left {ts = ts} r w f =
     let ts' : List Field = num unsigned "reserved_zero_future_use_mode" 6 o.v ∷ num unsigned "time_plan_mode" 2 m ∷ p.us in
     let q : ts ≡ ts' = o.is ∙ ap (λ (t : List Field). num unsigned "reserved_zero_future_use_mode" 6 o.v ∷ t) p.is in
     let n : length (kept ts) ≡ 104 + length (kept z.us) =
-    ap (λ (t : List Field). length (kept t)) q ∙ omega (arith, Good.laid_num edition_2 unsigned "reserved_zero_future_use_mode" 6 o.v (num unsigned "time_plan_mode" 2 m ∷ p.us), Good.laid_num edition_2 unsigned "time_plan_mode" 2 m p.us, z.size) in
+    ap (λ (t : List Field). length (kept t)) q ∙ omega (arith, Good.laid_num Second unsigned "reserved_zero_future_use_mode" 6 o.v (num unsigned "time_plan_mode" 2 m ∷ p.us), Good.laid_num Second unsigned "time_plan_mode" 2 m p.us, z.size) in
     let k : the "time_plan_mode" ts ≡ m = ap (the "time_plan_mode") q ∙ mode_of unsigned 6 2 o.v m p.us in
     ap (raw_left w f) q ∙ z.raws w f ∙ mode_left m p.small z.good w f
     ∙ ap (λ (t : Bool). cond (eqb m 3) (cond w (eqb f 0) t) true) (same_test (length (kept z.us)) (length (kept ts)) n)

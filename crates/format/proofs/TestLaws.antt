@@ -8,17 +8,19 @@ use native.Mathlib.Omega.{arith}
 use lib.Dec.{leb}
 use lib.ListN.{length, take, drop}
 use borrow.Author.Tests.{leb-false}
+use Rattle.format.specs.declared.Fault.{Fault}
 use Rattle.format.specs.Digits.{value, bits_of}
 use Rattle.format.specs.Syntax.{Syntax, end, field, when, need, at_most, slots, plan, raw, before, Field, num, flags, Parse, got, refused, and_then, push}
 use Rattle.format.specs.Body.{wholes, read_body}
 use Rattle.format.specs.Ledger.{size}
 use Rattle.format.specs.Whole.{Layout, sole, many, opaque, layout_before, walk, entries, read_as, body_read_as}
+use Rattle.format.specs.declared.Fault.TheVariants.{BodyTooLong, ExtensionTooLarge}
 use Rattle.format.proofs.Good.{Fine}
 use Rattle.format.proofs.TableLaws.{FineLayout}
 
 pub data Tested {A : Type 0} : Parse A → Parse A → Type 0 where
   alike : {p : Parse A} → Tested p p
-  above : {q : Parse A} {v : ℕ} → 299 < v → Tested (refused 30 v 299) q
+  above : {q : Parse A} {v : ℕ} → 299 < v → Tested (refused ExtensionTooLarge v 299) q
 
 -- what is read now was read before
 pub tested_got : {A : Type 0} {p q : Parse A} {a : A} {rest : List ℕ} → Tested p q → p ≡ got a rest → q ≡ got a rest
@@ -28,7 +30,7 @@ tested_got (above h) e = let o : ◌≡◌ {A = ℕ} 0 1 = cc in absurd (omega a
 -- what was read before is read now, but for an extension
 pub data Still {A : Type 0} (p : Parse A) (a : A) (rest : List ℕ) : Type 0 where
   still : p ≡ got a rest → Still p a rest
-  refuses : (v : ℕ) → 299 < v → p ≡ refused 30 v 299 → Still p a rest
+  refuses : (v : ℕ) → 299 < v → p ≡ refused ExtensionTooLarge v 299 → Still p a rest
 
 pub tested_still : {A : Type 0} {p q : Parse A} {a : A} {rest : List ℕ} → Tested p q → q ≡ got a rest → Still p a rest
 tested_still alike e = still e
@@ -47,7 +49,7 @@ module _ {A : Type 0} where
 tested_push : {A : Type 0} (x : A) (p q : Parse (List A)) → Tested p q → Tested (push x p) (push x q)
 tested_push x p q h = tested_then p q (λ xs rest. got (x ∷ xs) rest) (λ xs rest. got (x ∷ xs) rest) h (λ _ _. alike)
 
-tested_most : (a v m : ℕ) (p q : Parse (List Field)) → a ≡ 30 → m ≡ 299 → Tested p q → Tested (cond (leb v m) p (refused a v m)) q
+tested_most : (a : Fault) (v m : ℕ) (p q : Parse (List Field)) → a ≡ ExtensionTooLarge → m ≡ 299 → Tested p q → Tested (cond (leb v m) p (refused a v m)) q
 tested_most a v m p q e d x = go (leb v m) refl
   where
     go : (t : Bool) → leb v m ≡ t → Tested (cond t p (refused a v m)) q
@@ -90,4 +92,4 @@ tested_as opaque b f = alike
 
 pub tested_read : (l : Layout) (b : List ℕ) → FineLayout l → Tested (body_read_as l b) (body_read_as (layout_before l) b)
 unfolding body_read_as
-tested_read l b f = tested_cond (leb (length b) 4096) (read_as l b) (read_as (layout_before l) b) (refused 21 (length b) 4096) (tested_as l b f)
+tested_read l b f = tested_cond (leb (length b) 4096) (read_as l b) (read_as (layout_before l) b) (refused BodyTooLong (length b) 4096) (tested_as l b f)

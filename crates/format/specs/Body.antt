@@ -2,7 +2,10 @@
 -- Assumes nothing: these are definitions.
 use Rattle.std.specs.Prelude.{ℕ, ◌+◌, ◌*◌, ◌-◌, ◌/◌, cond, true, false, List, [], ◌∷◌, ◌++◌, leb, length, take, drop, replicate}
 use Rattle.format.specs.Digits.{digits, value}
-use Rattle.format.specs.Syntax.{Name, Syntax, end, field, when, need, at_most, slots, plan, raw, Field, num, flags, bytes, len, filler, Edition, edition_1, edition_2, added, Parse, got, refused, and_then, push}
+use Rattle.format.specs.Syntax.{Name, Syntax, end, field, when, need, at_most, slots, plan, raw, Field, num, flags, bytes, len, filler, added, Parse, got, refused, and_then, push}
+use Rattle.format.specs.declared.Edition.{Edition}
+use Rattle.format.specs.declared.Edition.TheVariants.{First, Second}
+use Rattle.format.specs.declared.Fault.TheVariants.{FieldCut, PlanOverrun}
 
 -- the bytes that m bits take
 abbrev pub wholes : ℕ → ℕ
@@ -20,7 +23,7 @@ close nm v n e p =
     let left : ℕ = e - (n - length rest) in
     cond (leb (n - length rest) e)
     (got (planned nm v ts (take left rest)) (drop left rest))
-    (refused 14 (n - length rest - e) 0))
+    (refused PlanOverrun (n - length rest - e) 0))
 
 -- Reading by a description. n: the body's bits in all, so that n - length bs is the place of bs; e: the place of the
 -- plan's end.
@@ -29,7 +32,7 @@ read_body n e end bs = got [] bs
 read_body n e (field g nm w k) bs =
     let v : ℕ = value 2 (take w bs) in
     let more : Parse (List Field) = push (num g nm w v) (read_body n e (k v) (drop w bs)) in
-    cond (leb w (length bs)) more (refused 1 (n - length bs + w) n)
+    cond (leb w (length bs)) more (refused FieldCut (n - length bs + w) n)
 read_body n e (when true k l) bs = read_body n e k bs
 read_body n e (when false k l) bs = read_body n e l bs
 read_body n e (need a w k) bs =
@@ -46,7 +49,7 @@ read_body n e (plan nm k) bs =
     let v : ℕ = value 2 (take 12 bs) in
     let e' : ℕ = n - length after + 8 * v in
     let more : Parse (List Field) = close nm v n e' (read_body n e' k after) in
-    cond (leb 12 (length bs)) more (refused 1 (n - length bs + 12) n)
+    cond (leb 12 (length bs)) more (refused FieldCut (n - length bs + 12) n)
 read_body n e (raw nm) bs =
     let m : ℕ = cond (leb e n) (e - (n - length bs)) 0 in
     got (bytes nm (take m bs) ∷ []) (drop m bs)
@@ -57,8 +60,8 @@ padded bs = bs ++ replicate (8 * wholes (length bs) - length bs) 0
 
 -- a plan's length, where it came as v and the fields behind it are laid out as bs
 abbrev pub length_of_plan : Edition → ℕ → List ℕ → ℕ
-length_of_plan edition_1 v bs = length bs / 8
-length_of_plan edition_2 v bs = v
+length_of_plan First v bs = length bs / 8
+length_of_plan Second v bs = v
 
 -- The fields' bits in the order read, padding zero.
 unfoldable pub laid : Edition → List Field → List ℕ
@@ -71,7 +74,7 @@ laid ed (filler fs ∷ ts) = added ed fs ++ laid ed ts
 
 -- "plain": lengths exact, no filler; "kept": both as they came
 abbrev pub plain : List Field → List ℕ
-plain ts = laid edition_1 ts
+plain ts = laid First ts
 
 abbrev pub kept : List Field → List ℕ
-kept ts = laid edition_2 ts
+kept ts = laid Second ts

@@ -2,8 +2,11 @@
 -- Assumes nothing: these are definitions.
 use Rattle.std.specs.Prelude.{ℕ, ◌+◌, ◌*◌, ◌-◌, ◌/◌, ◌%◌, ◌^◌, Bool, cond, true, false, ◌&&◌, List, [], ◌∷◌, ◌++◌, leb, ltb, eqb, length, take, drop}
 use Rattle.format.specs.Digits.{digits, value, bits_of, bytes_of}
-use Rattle.format.specs.Syntax.{Sign, unsigned, signed, Syntax, end, field, when, need, at_most, slots, plan, raw, Field, num, flags, bytes, len, filler, Edition, edition_1, edition_2, added, Name, Parse, got, refused, and_then, push}
+use Rattle.format.specs.Syntax.{Sign, unsigned, signed, Syntax, end, field, when, need, at_most, slots, plan, raw, Field, num, flags, bytes, len, filler, added, Name, Parse, got, refused, and_then, push}
+use Rattle.format.specs.declared.Edition.{Edition}
+use Rattle.format.specs.declared.Edition.TheVariants.{First, Second}
 use Rattle.format.specs.Body.{wholes, planned, padded, plain, kept}
+use Rattle.format.specs.declared.Fault.TheVariants.{LedgerMisfit, ValueMisfit, PlanLengthMisfit}
 
 -- the bytes of a field of w bits: 1, 2, 4 or 8, and 4 for a signed one
 abbrev pub size : Sign → ℕ → ℕ
@@ -32,7 +35,7 @@ ledger ed (filler fs ∷ ts) = added ed (counted_bytes fs) ++ ledger ed ts
 -- n: the ledger's bytes in all, so that n - length bs is the place of bs
 abbrev pub grant : {A : Type 0} → ℕ → ℕ → Bool → List ℕ → Parse A → Parse A
 grant n q fits bs more =
-    cond (leb q (length bs)) (cond fits more (refused 25 (n - length bs) 0)) (refused 23 (n - length bs) 0)
+    cond (leb q (length bs)) (cond fits more (refused ValueMisfit (n - length bs) 0)) (refused LedgerMisfit (n - length bs) 0)
 
 -- a 2-byte count and the bytes behind it, one field each; then k of their bits and of what follows
 abbrev pub read_counted_bytes : ℕ → List ℕ → (List ℕ → List ℕ → Parse (List Field)) → Parse (List Field)
@@ -63,7 +66,7 @@ leaves last v ts f =
 abbrev pub read_filler : Bool → ℕ → Name → ℕ → List Field → List ℕ → Parse (List Field)
 read_filler last n nm v ts bs =
     read_counted_bytes n bs (λ fs rest.
-    cond (leaves last v ts (length fs)) (got (planned nm v ts fs) rest) (refused 28 (n - length (drop 2 bs)) 0))
+    cond (leaves last v ts (length fs)) (got (planned nm v ts fs) rest) (refused PlanLengthMisfit (n - length (drop 2 bs)) 0))
 
 -- Reading by a description. A number is one that the field has: its w low bits, written so, are the bytes that stand
 -- there. last: nothing follows the entry, so that a plan may end past the data
@@ -82,12 +85,12 @@ read_ledger ed last n (slots nm a m k) bs =
     let packed : List ℕ = bits_of (take (wholes m) bs) in
     let more : Parse (List Field) = push (flags nm (take m packed)) (read_ledger ed last n k (drop (wholes m) bs)) in
     grant n (wholes m) (eqb (value 2 (drop m packed)) 0) bs more
-read_ledger edition_1 last n (plan nm k) bs =
-    and_then (read_ledger edition_1 last n k bs) (λ ts rest. got (planned nm (length (plain ts) / 8) ts []) rest)
-read_ledger edition_2 last n (plan nm k) bs =
+read_ledger First last n (plan nm k) bs =
+    and_then (read_ledger First last n k bs) (λ ts rest. got (planned nm (length (plain ts) / 8) ts []) rest)
+read_ledger Second last n (plan nm k) bs =
     let x : ℕ = value 256 (take 2 bs) in
     let v : ℕ = x % 2 ^ 12 in
     let more : Parse (List Field) =
-    and_then (read_ledger edition_2 last n k (drop 2 bs)) (λ ts rest. read_filler last n nm v ts rest) in
+    and_then (read_ledger Second last n k (drop 2 bs)) (λ ts rest. read_filler last n nm v ts rest) in
     grant n 2 (eqb v x) bs more
 read_ledger ed last n (raw nm) bs = read_counted_bytes n bs (λ xs rest. got (bytes nm xs ∷ []) rest)

@@ -1,15 +1,18 @@
 -- Document 01's samples P1 to P12, and samples of ledgers of both editions and of clocks' extensions: that each list
 -- holds is shown in proofs/SamplesHold, by computation.
 -- Assumes nothing.
-use Rattle.std.specs.Prelude.{ℕ, ◌+◌, ◌≡◌, List, [], ◌∷◌, ◌++◌, map, ℤ, pos, negsuc, length, replicate}
+use Rattle.std.specs.Prelude.{ℕ, ◌+◌, ◌≡◌, List, [], ◌∷◌, ◌++◌, map, ℤ, pos, negsuc, length, replicate, Option, Some, None, Result, Err}
 use Rattle.format.specs.Digits.{digits}
-use Rattle.format.specs.Syntax.{Edition, edition_1, edition_2, got, refused, and_then}
+use Rattle.format.specs.Syntax.{Parse, got, refused, and_then}
+use Rattle.format.specs.declared.Edition.{Edition}
+use Rattle.format.specs.declared.Edition.TheVariants.{First, Second}
 use Rattle.format.specs.Whole.{entries_of, body_read, version, id_of}
 use Rattle.format.specs.ByName.{the_int}
-use Rattle.format.specs.Refusals.{refuse}
-use Rattle.format.specs.Calls.{filed, relaid, restored, write_answer, write_left, read_answer, read_left}
-use Rattle.format.specs.declared.Answer.{Answer}
-use Rattle.format.specs.declared.Answer.TheVariants.{Done, Refused}
+use Rattle.format.specs.Refusals.{fault_number, refuse}
+use Rattle.format.specs.Calls.{done, filed, relaid, restored, write_answer, write_left, read_answer, read_left}
+use Rattle.format.specs.declared.Refusal.{Refusal}
+use Rattle.format.specs.declared.Output.{Output}
+use Rattle.format.specs.declared.Fault.TheVariants.{BodyEmpty, BufferTooShort, ValueMisfit}
 
 -- A case and what it must give: a body under its id and its ledger in an edition; its plain or kept body; its refusal,
 -- the same of both; a body of fragments and their latitudes; a ledger, its id and its plain or kept body, or its
@@ -20,18 +23,23 @@ pub data Sample : Type 0 where
   latitudes : List ℕ → List ℤ → Sample
   restores : List ℕ → ℕ → List ℕ → Sample
   denies : List ℕ → ℕ → ℕ → ℕ → Sample
-  writes : ℕ → List ℕ → List ℕ → Answer → List ℕ → Sample
-  reads : List ℕ → List ℕ → Answer → List ℕ → Sample
+  writes : ℕ → List ℕ → List ℕ → Result Output Refusal → List ℕ → Sample
+  reads : List ℕ → List ℕ → Result Output Refusal → List ℕ → Sample
+
+-- a refusal's number and values, as the papers have them; none of a result
+abbrev pub refusal_in : {A : Type 0} → Parse A → Option (ℕ × ℕ × ℕ)
+refusal_in (got a rest) = None
+refusal_in (refused fault needed had) = Some (fault_number fault, needed, had)
 
 abbrev pub Holds : Sample → Type 0
 Holds (files ed id b l) = filed ed id b ≡ got l []
 Holds (lays ed id b out) = relaid ed id b ≡ got out []
-Holds (refuses ed id b x y z) = (filed ed id b ≡ refused x y z) × (relaid ed id b ≡ refused x y z)
+Holds (refuses ed id b x y z) = (refusal_in (filed ed id b) ≡ Some (x, y, z)) × (refusal_in (relaid ed id b) ≡ Some (x, y, z))
 Holds (latitudes b vs) =
     and_then (body_read 1 b) (λ t rest. got (map (the_int "centre_latitude") (entries_of t)) rest) ≡ got vs []
 Holds (restores l id b) = (id_of l ≡ id) × (restored l ≡ got b [])
-Holds (denies l x y z) = restored l ≡ refused x y z
-Holds (writes id b out a out') = (write_answer edition_1 id b (length out) ≡ a) × (write_left edition_1 id b out ≡ out')
+Holds (denies l x y z) = refusal_in (restored l) ≡ Some (x, y, z)
+Holds (writes id b out a out') = (write_answer First id b (length out) ≡ a) × (write_left First id b out ≡ out')
 Holds (reads l out a out') = (read_answer l (length out) ≡ a) × (read_left l out ≡ out')
 
 abbrev pub AllHold : List Sample → Type 0
@@ -52,16 +60,16 @@ fragment19 x y = replicate 4 0 ++ (x ∷ y ∷ y ∷ replicate 12 0)
 
 unfoldable pub p1_to_p12 : List Sample
 p1_to_p12 =
-    files edition_1 0 [] (0 ∷ 4 ∷ 1 ∷ 0 ∷ 0 ∷ 0 ∷ []) ∷
-    refuses edition_1 0 (0 ∷ 0 ∷ 7 ∷ 1 ∷ 1 ∷ 0x20 ∷ []) 4 344 16 ∷
-    files edition_1 0 (0 ∷ 0 ∷ 7 ∷ 0 ∷ 1 ∷ 0x20 ∷ 0x80 ∷ []) (0 ∷ 0x0e ∷ 1 ∷ 0 ∷ 0 ∷ 1 ∷ 0 ∷ 0 ∷ 0 ∷ 7 ∷ 0 ∷ 0 ∷ 1 ∷ 0x20 ∷ 1 ∷ 0 ∷ []) ∷
-    files edition_1 0 (0 ∷ 0 ∷ 7 ∷ 0 ∷ 1 ∷ 0x20 ∷ 0x80 ∷ 0xff ∷ []) (0 ∷ 0x0e ∷ 1 ∷ 0 ∷ 0 ∷ 1 ∷ 0 ∷ 0 ∷ 0 ∷ 7 ∷ 0 ∷ 0 ∷ 1 ∷ 0x20 ∷ 1 ∷ 0 ∷ []) ∷
-    refuses edition_1 1 (replicate 5 0) 1 48 40 ∷
-    refuses edition_1 2 [] 2 1 0 ∷
-    refuses edition_1 3 (plan31 24) 14 8 0 ∷
-    files edition_1 3 (plan31 25) plan31_ledger ∷
-    files edition_1 3 (plan31 4095) plan31_ledger ∷
-    files edition_1 5 [] (0 ∷ 2 ∷ 1 ∷ 5 ∷ []) ∷
+    files First 0 [] (0 ∷ 4 ∷ 1 ∷ 0 ∷ 0 ∷ 0 ∷ []) ∷
+    refuses First 0 (0 ∷ 0 ∷ 7 ∷ 1 ∷ 1 ∷ 0x20 ∷ []) 4 344 16 ∷
+    files First 0 (0 ∷ 0 ∷ 7 ∷ 0 ∷ 1 ∷ 0x20 ∷ 0x80 ∷ []) (0 ∷ 0x0e ∷ 1 ∷ 0 ∷ 0 ∷ 1 ∷ 0 ∷ 0 ∷ 0 ∷ 7 ∷ 0 ∷ 0 ∷ 1 ∷ 0x20 ∷ 1 ∷ 0 ∷ []) ∷
+    files First 0 (0 ∷ 0 ∷ 7 ∷ 0 ∷ 1 ∷ 0x20 ∷ 0x80 ∷ 0xff ∷ []) (0 ∷ 0x0e ∷ 1 ∷ 0 ∷ 0 ∷ 1 ∷ 0 ∷ 0 ∷ 0 ∷ 7 ∷ 0 ∷ 0 ∷ 1 ∷ 0x20 ∷ 1 ∷ 0 ∷ []) ∷
+    refuses First 1 (replicate 5 0) 1 48 40 ∷
+    refuses First 2 [] 2 1 0 ∷
+    refuses First 3 (plan31 24) 14 8 0 ∷
+    files First 3 (plan31 25) plan31_ledger ∷
+    files First 3 (plan31 4095) plan31_ledger ∷
+    files First 5 [] (0 ∷ 2 ∷ 1 ∷ 5 ∷ []) ∷
     latitudes (fragment19 0x82 0) (negsuc 131071 ∷ []) ∷
     latitudes (fragment19 0x81 0xff) (pos 131071 ∷ []) ∷
     []
@@ -74,15 +82,15 @@ framed ed id content = digits 256 2 (length content + 2) ++ (version ed ∷ id �
 
 -- one satellite under id 0: satellite_id from place 6, west_east_flag at place 14
 abbrev pub satellite : ℕ → ℕ → List ℕ
-satellite x flag = framed edition_1 0 (0 ∷ 1 ∷ x ∷ 0 ∷ 0 ∷ 7 ∷ 0 ∷ 0 ∷ 1 ∷ 0x20 ∷ flag ∷ 0 ∷ [])
+satellite x flag = framed First 0 (0 ∷ 1 ∷ x ∷ 0 ∷ 0 ∷ 7 ∷ 0 ∷ 0 ∷ 1 ∷ 0x20 ∷ flag ∷ 0 ∷ [])
 
 -- one plan under id 3 of a mode, whose own fields start at place 35
 abbrev pub plan_ledger : ℕ → List ℕ → List ℕ
-plan_ledger m fields = framed edition_1 3 (0 ∷ 1 ∷ replicate 6 0 ++ (m ∷ replicate 22 0) ++ fields)
+plan_ledger m fields = framed First 3 (0 ∷ 1 ∷ replicate 6 0 ++ (m ∷ replicate 22 0) ++ fields)
 
 -- one fragment under id 1 with its centre; the latitude's four bytes from place 13 on
 abbrev pub centred : List ℕ → List ℕ
-centred latitude = framed edition_1 1 (0 ∷ 1 ∷ replicate 4 0 ++ (1 ∷ 0 ∷ 0 ∷ latitude) ++ replicate 20 0)
+centred latitude = framed First 1 (0 ∷ 1 ∷ replicate 4 0 ++ (1 ∷ 0 ∷ 0 ∷ latitude) ++ replicate 20 0)
 
 unfoldable pub ledger_samples : List Sample
 ledger_samples =
@@ -91,9 +99,9 @@ ledger_samples =
     denies (0 ∷ 5 ∷ 1 ∷ 0 ∷ 0 ∷ 0 ∷ []) 23 0 0 ∷
     denies (0 ∷ 4 ∷ 3 ∷ 0 ∷ 0 ∷ 0 ∷ []) 24 2 0 ∷
     -- half a count, an entry that is missing, a byte over
-    denies (framed edition_1 0 (0 ∷ [])) 23 4 0 ∷
-    denies (framed edition_1 0 (0 ∷ 1 ∷ [])) 23 6 0 ∷
-    denies (framed edition_1 0 (0 ∷ 0 ∷ 0xff ∷ [])) 23 6 0 ∷
+    denies (framed First 0 (0 ∷ [])) 23 4 0 ∷
+    denies (framed First 0 (0 ∷ 1 ∷ [])) 23 6 0 ∷
+    denies (framed First 0 (0 ∷ 0 ∷ 0xff ∷ [])) 23 6 0 ∷
     -- an id of more than 24 bits, a flag that is neither 0 nor 1, a latitude of more than 18 bits
     restores (satellite 0 1) 0 (0 ∷ 0 ∷ 7 ∷ 0 ∷ 1 ∷ 0x20 ∷ 0x80 ∷ []) ∷
     denies (satellite 1 1) 25 6 0 ∷
@@ -107,7 +115,7 @@ ledger_samples =
     denies (plan_ledger 3 (0 ∷ 2 ∷ 0xab ∷ [])) 23 37 0 ∷
     restores (plan_ledger 3 (0 ∷ 1 ∷ 0xab ∷ [])) 3 (replicate 5 0 ++ (14 ∷ 3 ∷ replicate 12 0 ++ (0xab ∷ []))) ∷
     -- a plain body over 4096 bytes
-    denies (framed edition_1 5 (replicate 4097 0)) 26 4097 4096 ∷
+    denies (framed First 5 (replicate 4097 0)) 26 4097 4096 ∷
     []
 
 -- ---- edition 2
@@ -123,10 +131,10 @@ dwelt v fs = plan2 v 0 (replicate 22 0) fs
 
 -- a ledger of one plan, and of two
 abbrev pub alone : List ℕ → List ℕ
-alone p = framed edition_2 3 (0 ∷ 1 ∷ p)
+alone p = framed Second 3 (0 ∷ 1 ∷ p)
 
 abbrev pub pair : List ℕ → List ℕ → List ℕ
-pair p q = framed edition_2 3 (0 ∷ 2 ∷ p ++ q)
+pair p q = framed Second 3 (0 ∷ 2 ∷ p ++ q)
 
 -- a body's plan of a mode: 13 bytes and others; of mode 3; and of mode 1, with three slots and one byte of filler
 abbrev pub plan_bytes : ℕ → ℕ → List ℕ → List ℕ
@@ -140,35 +148,35 @@ slot_plan packed = plan_bytes 19 1 (0 ∷ 3 ∷ 0 ∷ 2 ∷ packed ∷ 0xab ∷ 
 
 unfoldable pub edition_2_samples : List Sample
 edition_2_samples =
-    files edition_2 0 [] (0 ∷ 4 ∷ 2 ∷ 0 ∷ 0 ∷ 0 ∷ []) ∷
+    files Second 0 [] (0 ∷ 4 ∷ 2 ∷ 0 ∷ 0 ∷ 0 ∷ []) ∷
     -- P8 and P9 differ now, in plan_length; remarks are kept, and so are those of a plan that ends past the data; bytes
     -- after the last entry are not
-    files edition_2 3 (plan31 25) (alone (dwelt 25 [])) ∷
-    files edition_2 3 (plan31 4095) (alone (dwelt 4095 [])) ∷
-    files edition_2 3 (plan31 27 ++ (0xab ∷ 0xcd ∷ [])) (alone (dwelt 27 (0xab ∷ 0xcd ∷ []))) ∷
-    files edition_2 3 (plan31 30 ++ (0xab ∷ 0xcd ∷ [])) (alone (dwelt 30 (0xab ∷ 0xcd ∷ []))) ∷
-    files edition_2 3 (plan31 26 ++ (0xab ∷ 0xcd ∷ [])) (alone (dwelt 26 (0xab ∷ []))) ∷
+    files Second 3 (plan31 25) (alone (dwelt 25 [])) ∷
+    files Second 3 (plan31 4095) (alone (dwelt 4095 [])) ∷
+    files Second 3 (plan31 27 ++ (0xab ∷ 0xcd ∷ [])) (alone (dwelt 27 (0xab ∷ 0xcd ∷ []))) ∷
+    files Second 3 (plan31 30 ++ (0xab ∷ 0xcd ∷ [])) (alone (dwelt 30 (0xab ∷ 0xcd ∷ []))) ∷
+    files Second 3 (plan31 26 ++ (0xab ∷ 0xcd ∷ [])) (alone (dwelt 26 (0xab ∷ []))) ∷
     -- raw bytes within the data, and the bytes behind the 13 of a raw plan that ends past it
-    files edition_2 3 (raw_plan 15 (0xab ∷ 0xcd ∷ [])) (alone (plan2 15 3 (0 ∷ 2 ∷ 0xab ∷ 0xcd ∷ []) [])) ∷
-    files edition_2 3 (raw_plan 16 (0xab ∷ 0xcd ∷ [])) (alone (plan2 16 3 (0 ∷ 0 ∷ []) (0xab ∷ 0xcd ∷ []))) ∷
+    files Second 3 (raw_plan 15 (0xab ∷ 0xcd ∷ [])) (alone (plan2 15 3 (0 ∷ 2 ∷ 0xab ∷ 0xcd ∷ []) [])) ∷
+    files Second 3 (raw_plan 16 (0xab ∷ 0xcd ∷ [])) (alone (plan2 16 3 (0 ∷ 0 ∷ []) (0xab ∷ 0xcd ∷ []))) ∷
     -- padding is zero in front of filler; the kept body has both, and no bytes behind the last plan
-    files edition_2 3 (slot_plan 0xff) (alone (plan2 19 1 (0 ∷ 0 ∷ 3 ∷ 0 ∷ 0 ∷ 2 ∷ 0xe0 ∷ []) (0xab ∷ []))) ∷
-    lays edition_2 3 (slot_plan 0xff ++ (7 ∷ 7 ∷ 7 ∷ [])) (slot_plan 0xe0) ∷
-    lays edition_2 3 (raw_plan 16 (0xab ∷ 0xcd ∷ [])) (raw_plan 16 (0xab ∷ 0xcd ∷ [])) ∷
+    files Second 3 (slot_plan 0xff) (alone (plan2 19 1 (0 ∷ 0 ∷ 3 ∷ 0 ∷ 0 ∷ 2 ∷ 0xe0 ∷ []) (0xab ∷ []))) ∷
+    lays Second 3 (slot_plan 0xff ++ (7 ∷ 7 ∷ 7 ∷ [])) (slot_plan 0xe0) ∷
+    lays Second 3 (raw_plan 16 (0xab ∷ 0xcd ∷ [])) (raw_plan 16 (0xab ∷ 0xcd ∷ [])) ∷
     -- P7 is refused in either edition
-    refuses edition_2 3 (plan31 24) 14 8 0 ∷
+    refuses Second 3 (plan31 24) 14 8 0 ∷
     -- and back
-    restores (framed edition_2 0 (0 ∷ 0 ∷ [])) 0 [] ∷
+    restores (framed Second 0 (0 ∷ 0 ∷ [])) 0 [] ∷
     restores (alone (dwelt 27 (0xab ∷ 0xcd ∷ []))) 3 (plan31 27 ++ (0xab ∷ 0xcd ∷ [])) ∷
     restores (alone (dwelt 4095 [])) 3 (plan31 4095) ∷
     restores (pair (dwelt 26 (0xab ∷ [])) (dwelt 27 [])) 3 (plan31 26 ++ (0xab ∷ []) ++ plan31 27) ∷
     restores (alone (plan2 15 3 (0 ∷ 2 ∷ 0xab ∷ 0xcd ∷ []) [])) 3 (raw_plan 15 (0xab ∷ 0xcd ∷ [])) ∷
     restores (alone (plan2 16 3 (0 ∷ 0 ∷ []) (0xab ∷ 0xcd ∷ []))) 3 (raw_plan 16 (0xab ∷ 0xcd ∷ [])) ∷
     -- a length that is missing, and one of more than 12 bits; a filler's count that is missing, and filler that is
-    denies (framed edition_2 3 (0 ∷ 1 ∷ replicate 5 0)) 23 11 0 ∷
+    denies (framed Second 3 (0 ∷ 1 ∷ replicate 5 0)) 23 11 0 ∷
     denies (alone (dwelt 4096 [])) 25 11 0 ∷
-    denies (framed edition_2 3 (0 ∷ 1 ∷ replicate 53 0)) 23 59 0 ∷
-    denies (framed edition_2 3 (0 ∷ 1 ∷ replicate 53 0 ++ (0 ∷ 2 ∷ 0xab ∷ []))) 23 61 0 ∷
+    denies (framed Second 3 (0 ∷ 1 ∷ replicate 53 0)) 23 59 0 ∷
+    denies (framed Second 3 (0 ∷ 1 ∷ replicate 53 0 ++ (0 ∷ 2 ∷ 0xab ∷ []))) 23 61 0 ∷
     -- a length below that of the fields, too much filler, and too little of a plan that is not the last by the ledger's
     -- count
     denies (alone (dwelt 24 [])) 28 61 0 ∷
@@ -176,7 +184,7 @@ edition_2_samples =
     denies (pair (dwelt 26 []) (dwelt 25 [])) 28 61 0 ∷
     denies (pair (dwelt 26 []) []) 28 61 0 ∷
     -- plans behind the last by the ledger's count are bytes over
-    denies (framed edition_2 3 (0 ∷ 1 ∷ dwelt 26 [] ++ dwelt 25 [])) 23 61 0 ∷
+    denies (framed Second 3 (0 ∷ 1 ∷ dwelt 26 [] ++ dwelt 25 [])) 23 61 0 ∷
     -- filler behind raw bytes; bytes that would be raw; raw bytes of a plan that ends past the data
     denies (alone (plan2 15 3 (0 ∷ 1 ∷ 0xab ∷ []) (0xcd ∷ []))) 28 42 0 ∷
     denies (alone (plan2 15 3 (0 ∷ 0 ∷ []) (0xab ∷ 0xcd ∷ []))) 28 41 0 ∷
@@ -215,32 +223,32 @@ clocked v m clocks = replicate 4 0 ++ digits 256 2 v ++ (m ∷ clocks)
 unfoldable pub extension_samples : List Sample
 extension_samples =
     -- 299 is the last one
-    files edition_1 2 (associated 43) (associated_ledger edition_1 43) ∷
-    files edition_2 2 (associated 43) (associated_ledger edition_2 43) ∷
-    refuses edition_1 2 (associated 44) 30 300 299 ∷
-    refuses edition_2 2 (associated 255) 30 511 299 ∷
+    files First 2 (associated 43) (associated_ledger First 43) ∷
+    files Second 2 (associated 43) (associated_ledger Second 43) ∷
+    refuses First 2 (associated 44) 30 300 299 ∷
+    refuses Second 2 (associated 255) 30 511 299 ∷
     -- the test of a group's bits comes first
-    refuses edition_1 2 (0 ∷ clock_of 44) 9 152 56 ∷
-    refuses edition_1 1 (changing 2 0 (system_of (clock_of 44)) []) 7 160 96 ∷
-    refuses edition_1 3 (clocked 25 0 (clock0 ++ clock0 ++ clock_of 44)) 10 96 48 ∷
+    refuses First 2 (0 ∷ clock_of 44) 9 152 56 ∷
+    refuses First 1 (changing 2 0 (system_of (clock_of 44)) []) 7 160 96 ∷
+    refuses First 3 (clocked 25 0 (clock0 ++ clock0 ++ clock_of 44)) 10 96 48 ∷
     -- a clock is read whole before its extension is tested; what stands behind it comes later: the next clock, the test
     -- of the mode's bits, the plan's end
-    refuses edition_1 3 (clocked 0 0 (0 ∷ 0 ∷ 0 ∷ 0 ∷ 1 ∷ [])) 1 104 96 ∷
-    refuses edition_1 3 (clocked 0 0 (clock_of 44)) 30 300 299 ∷
-    refuses edition_1 3 (clocked 0 0 (clock_of 44 ++ clock0)) 30 300 299 ∷
-    refuses edition_1 3 (clocked 0 0 (clock_of 44 ++ clock0 ++ clock0 ++ clock0)) 30 300 299 ∷
+    refuses First 3 (clocked 0 0 (0 ∷ 0 ∷ 0 ∷ 0 ∷ 1 ∷ [])) 1 104 96 ∷
+    refuses First 3 (clocked 0 0 (clock_of 44)) 30 300 299 ∷
+    refuses First 3 (clocked 0 0 (clock_of 44 ++ clock0)) 30 300 299 ∷
+    refuses First 3 (clocked 0 0 (clock_of 44 ++ clock0 ++ clock0 ++ clock0)) 30 300 299 ∷
     -- every clock of a plan, that of a raw one too; raw bytes and filler are no clocks
-    refuses edition_1 3 (clocked 13 3 (clock0 ++ clock_of 45)) 30 301 299 ∷
-    refuses edition_1 3 (clocked 25 0 (clock0 ++ clock0 ++ clock0 ++ clock_of 46)) 30 302 299 ∷
-    refuses edition_2 3 (clocked 37 2 (clock0 ++ clock0 ++ clock0 ++ clock0 ++ clock0 ++ clock_of 47)) 30 303 299 ∷
-    lays edition_1 3 (clocked 19 3 (clock0 ++ clock0 ++ clock_of 44)) (clocked 19 3 (clock0 ++ clock0 ++ clock_of 44)) ∷
-    lays edition_2 3 (clocked 31 0 (clock0 ++ clock0 ++ clock0 ++ clock0 ++ clock_of 44)) (clocked 31 0 (clock0 ++ clock0 ++ clock0 ++ clock0 ++ clock_of 44)) ∷
+    refuses First 3 (clocked 13 3 (clock0 ++ clock_of 45)) 30 301 299 ∷
+    refuses First 3 (clocked 25 0 (clock0 ++ clock0 ++ clock0 ++ clock_of 46)) 30 302 299 ∷
+    refuses Second 3 (clocked 37 2 (clock0 ++ clock0 ++ clock0 ++ clock0 ++ clock0 ++ clock_of 47)) 30 303 299 ∷
+    lays First 3 (clocked 19 3 (clock0 ++ clock0 ++ clock_of 44)) (clocked 19 3 (clock0 ++ clock0 ++ clock_of 44)) ∷
+    lays Second 3 (clocked 31 0 (clock0 ++ clock0 ++ clock0 ++ clock0 ++ clock_of 44)) (clocked 31 0 (clock0 ++ clock0 ++ clock0 ++ clock0 ++ clock_of 44)) ∷
     -- every system
-    refuses edition_1 1 (changing 2 0 (system_of clock0 ++ system_of (clock_of 44)) []) 30 300 299 ∷
-    refuses edition_1 1 (changing 1 2 (system_of clock0) (system_of clock0 ++ system_of (clock_of 44))) 30 300 299 ∷
+    refuses First 1 (changing 2 0 (system_of clock0 ++ system_of (clock_of 44)) []) 30 300 299 ∷
+    refuses First 1 (changing 1 2 (system_of clock0) (system_of clock0 ++ system_of (clock_of 44))) 30 300 299 ∷
     -- stored ledgers of both editions
-    restores (associated_ledger edition_1 44) 2 (associated 44) ∷
-    restores (associated_ledger edition_2 255) 2 (associated 255) ∷
+    restores (associated_ledger First 44) 2 (associated 44) ∷
+    restores (associated_ledger Second 255) 2 (associated 255) ∷
     []
 
 -- ---- buffers: one byte short, and one byte more than the result
@@ -251,10 +259,10 @@ used n = replicate n 0xee
 
 unfoldable pub call_samples : List Sample
 call_samples =
-    writes 0 [] (used 5) (Refused (refuse 22 6 5)) (used 5) ∷
-    writes 0 [] (used 7) (Done 0 6) (0 ∷ 4 ∷ 1 ∷ 0 ∷ 0 ∷ 0 ∷ 0xee ∷ []) ∷
-    writes 2 [] (used 5) (Refused (refuse 2 1 0)) (used 5) ∷
-    reads (satellite 0 1) (used 6) (Refused (refuse 22 7 6)) (used 6) ∷
-    reads (satellite 0 1) (used 8) (Done 0 7) (0 ∷ 0 ∷ 7 ∷ 0 ∷ 1 ∷ 0x20 ∷ 0x80 ∷ 0xee ∷ []) ∷
-    reads (satellite 1 1) (used 6) (Refused (refuse 25 6 0)) (used 6) ∷
+    writes 0 [] (used 5) (Err (refuse BufferTooShort 6 5)) (used 5) ∷
+    writes 0 [] (used 7) (done 0 6) (0 ∷ 4 ∷ 1 ∷ 0 ∷ 0 ∷ 0 ∷ 0xee ∷ []) ∷
+    writes 2 [] (used 5) (Err (refuse BodyEmpty 1 0)) (used 5) ∷
+    reads (satellite 0 1) (used 6) (Err (refuse BufferTooShort 7 6)) (used 6) ∷
+    reads (satellite 0 1) (used 8) (done 0 7) (0 ∷ 0 ∷ 7 ∷ 0 ∷ 1 ∷ 0x20 ∷ 0x80 ∷ 0xee ∷ []) ∷
+    reads (satellite 1 1) (used 6) (Err (refuse ValueMisfit 6 0)) (used 6) ∷
     []

@@ -2,6 +2,9 @@
 -- Assumes nothing: these are definitions.
 use Rattle.std.specs.Prelude.{ℕ, Bool, List, [], ◌∷◌}
 use Prim.Native.String.{String}
+use Rattle.format.specs.declared.Fault.{Fault}
+use Rattle.format.specs.declared.Edition.{Edition}
+use Rattle.format.specs.declared.Edition.TheVariants.{First, Second}
 
 -- a field's name, in the Rust's words
 abbrev pub Name : Type 0
@@ -23,9 +26,9 @@ pub data Syntax : Type 0 where
   end : Syntax
   field : Sign → Name → ℕ → (ℕ → Syntax) → Syntax
   when : Bool → Syntax → Syntax → Syntax
-  need : ℕ → ℕ → Syntax → Syntax
-  at_most : ℕ → ℕ → ℕ → Syntax → Syntax
-  slots : Name → ℕ → ℕ → Syntax → Syntax
+  need : Fault → ℕ → Syntax → Syntax
+  at_most : Fault → ℕ → ℕ → Syntax → Syntax
+  slots : Name → Fault → ℕ → Syntax → Syntax
   plan : Name → Syntax → Syntax
   raw : Name → Syntax
 
@@ -48,25 +51,21 @@ pub data Field : Type 0 where
   len : Name → ℕ → Field
   filler : List ℕ → Field
 
--- The "editions" of the ledger (S-18), and of the body that comes back from it. In the first a plan's length is what
--- its fields take and there is no filler; the second keeps both as they came.
-pub data Edition : Type 0 where
-  edition_1 edition_2 : Edition
-
--- what the second edition alone has
+-- What the second "edition" (S-18) of the ledger, and of the body that comes back from it, alone has. In the first a
+-- plan's length is what its fields take and there is no filler; the second keeps both as they came.
 abbrev pub added : Edition → List ℕ → List ℕ
-added edition_1 xs = []
-added edition_2 xs = xs
+added First xs = []
+added Second xs = xs
 
--- what reading gives: something read, and the digits that are left; or a refusal's number, need and have
+-- what reading gives: something read, and the digits that are left; or a refusal's fault, need and have
 pub data Parse (A : Type 0) : Type 0 where
   got : A → List ℕ → Parse A
-  refused : ℕ → ℕ → ℕ → Parse A
+  refused : Fault → ℕ → ℕ → Parse A
 
 -- go on with what was read; a refusal ends the whole reading
 abbrev pub and_then : {A B : Type 0} → Parse A → (A → List ℕ → Parse B) → Parse B
 and_then (got a rest) k = k a rest
-and_then (refused number needed had) k = refused number needed had
+and_then (refused fault needed had) k = refused fault needed had
 
 -- one more in front of those that follow
 abbrev pub push : {A : Type 0} → A → Parse (List A) → Parse (List A)

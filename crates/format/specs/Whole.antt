@@ -1,11 +1,15 @@
 -- A whole body and a whole ledger: table ids, entries, accepted bodies, plain and kept body, ledger, and its reading.
 -- Assumes nothing: these are definitions.
-use Rattle.std.specs.Prelude.{ℕ, zero, suc, ◌+◌, ◌*◌, ◌-◌, ◌/◌, ◌<◌, ◌≡◌, Bool, cond, true, false, ◌&&◌, ◌||◌, List, [], ◌∷◌, ◌++◌, leb, eqb, length, take, drop, get_or}
+use Rattle.std.specs.Prelude.{ℕ, zero, suc, ◌+◌, ◌*◌, ◌-◌, ◌/◌, ◌<◌, ◌≡◌, Bool, cond, true, false, ◌&&◌, ◌||◌, List, [], ◌∷◌, ◌++◌, leb, eqb, length, take, drop, get_or, Result, Ok, Err}
 use Rattle.format.specs.Digits.{digits, value, Below, bits_of, bytes_of}
-use Rattle.format.specs.Syntax.{Syntax, end, before, Field, Edition, edition_1, edition_2, Parse, got, refused, and_then, push}
+use Rattle.format.specs.Syntax.{Syntax, end, before, Field, Parse, got, refused, and_then, push}
+use Rattle.format.specs.declared.Edition.{Edition}
+use Rattle.format.specs.declared.Edition.TheVariants.{First, Second}
+use Rattle.format.specs.declared.UnknownVersion.{UnknownVersion}
 use Rattle.format.specs.Tables.{position, fragment, association, beamhopping, header, position3}
 use Rattle.format.specs.Body.{read_body, laid}
 use Rattle.format.specs.Ledger.{ledger, read_ledger, grant}
+use Rattle.format.specs.declared.Fault.TheVariants.{BodyTooLong, LedgerMisfit, VersionUnknown, RestoredTooLong}
 
 -- ---- table ids
 
@@ -70,7 +74,7 @@ read_as opaque b = got (as_it_is b) []
 unfoldable pub body_read_as : Layout → List ℕ → Parse Table
 body_read_as l b =
     let more : Parse Table = read_as l b in
-    cond (leb (length b) 4096) more (refused 21 (length b) 4096)
+    cond (leb (length b) 4096) more (refused BodyTooLong (length b) 4096)
 
 abbrev pub body_read : ℕ → List ℕ → Parse Table
 body_read id b = body_read_as (layout id) b
@@ -84,7 +88,7 @@ starts_as opaque b = got (0 ∷ []) []
 unfoldable pub body_starts : ℕ → List ℕ → Parse (List ℕ)
 body_starts id b =
     let more : Parse (List ℕ) = starts_as (layout id) b in
-    cond (leb (length b) 4096) more (refused 21 (length b) 4096)
+    cond (leb (length b) 4096) more (refused BodyTooLong (length b) 4096)
 
 -- "accepted": a byte and bytes whose reading meets no refusal, and the fields that it gives. Now; and "accepted before
 -- this change" (S-23), when extensions were not tested
@@ -121,7 +125,7 @@ body_of ed (list hs es) = packed (laid ed hs ++ laids ed es)
 body_of ed (as_it_is b) = b
 
 abbrev pub kept_of : Table → List ℕ
-kept_of t = body_of edition_2 t
+kept_of t = body_of Second t
 
 -- what follows the table id in a ledger; the entries behind their 2-byte count
 unfoldable pub content_of : Edition → Table → List ℕ
@@ -131,8 +135,8 @@ content_of ed (as_it_is b) = b
 
 -- an edition's "version byte"
 abbrev pub version : Edition → ℕ
-version edition_1 = 1
-version edition_2 = 2
+version First = 1
+version Second = 2
 
 -- "ledger": length, version, table id, content
 unfoldable pub ledger_of : Edition → ℕ → Table → List ℕ
@@ -147,7 +151,7 @@ counted ed n s (suc c) bs = and_then (read_ledger ed (eqb c 0) n s bs) (λ ts re
 
 -- no bytes over
 abbrev pub ended : ℕ → Parse Table → Parse Table
-ended n p = and_then p (λ t rest. cond (eqb (length rest) 0) (got t []) (refused 23 (n - length rest) 0))
+ended n p = and_then p (λ t rest. cond (eqb (length rest) 0) (got t []) (refused LedgerMisfit (n - length rest) 0))
 
 unfoldable pub content_as : Edition → ℕ → Layout → List ℕ → Parse Table
 content_as ed n (sole s) bs = ended n (and_then (read_ledger ed true n s bs) (λ ts rest. got (one ts) rest))
@@ -161,7 +165,7 @@ content_as ed n opaque bs = got (as_it_is bs) []
 abbrev pub sized : Edition → Parse Table → Parse Table
 sized ed p =
     and_then p (λ t rest.
-    cond (leb (length (body_of ed t)) 4096) (got t rest) (refused 26 (length (body_of ed t)) 4096))
+    cond (leb (length (body_of ed t)) 4096) (got t rest) (refused RestoredTooLong (length (body_of ed t)) 4096))
 
 -- the version and the table id that a ledger names
 abbrev pub version_of : List ℕ → ℕ
@@ -175,7 +179,14 @@ abbrev pub known : ℕ → Bool
 known v = eqb v 1 || eqb v 2
 
 abbrev pub edition_for : ℕ → Edition
-edition_for v = cond (eqb v 2) edition_2 edition_1
+edition_for v = cond (eqb v 2) Second First
+
+-- what a version byte says: the edition that has it, or that none has
+abbrev pub edition_named : ℕ → Result Edition UnknownVersion
+edition_named v = cond (known v) (Ok (edition_for v)) (Err (record { 0 = v }))
+
+abbrev pub IsVersionOf : ℕ → Result Edition UnknownVersion → Type 0
+IsVersionOf v r = r ≡ edition_named v
 
 abbrev pub edition_of : List ℕ → Edition
 edition_of l = edition_for (version_of l)
@@ -185,4 +196,4 @@ unfoldable pub ledger_read : List ℕ → Parse Table
 ledger_read l =
     let more : Parse Table = sized (edition_of l) (content_as (edition_of l) (length l) (layout (id_of l)) (drop 4 l)) in
     cond (leb 4 (length l) && eqb (value 256 (take 2 l)) (length l - 2))
-    (cond (known (version_of l)) more (refused 24 2 0)) (refused 23 0 0)
+    (cond (known (version_of l)) more (refused VersionUnknown 2 0)) (refused LedgerMisfit 0 0)

@@ -1,23 +1,15 @@
 -- Table id 1: a cell fragment from its fields, each by its name.
 -- Assumes nothing: these are definitions.
-use Rattle.std.specs.Prelude.{ℕ, cond, List, eqb}
-use Rattle.format.specs.Refusals.{refuse}
+use Rattle.std.specs.Prelude.{ℕ, cond, List, eqb, Some, None, Result, Err}
 use Rattle.format.specs.Syntax.{Field}
 use Rattle.format.specs.Tables.{fragment}
 use Rattle.format.specs.ByName.{the, the_int}
-use Rattle.format.specs.At.{read}
+use Rattle.format.specs.At.{read, found_at}
 use Rattle.format.specs.declared.Refusal.{Refusal}
+use Rattle.format.specs.declared.Found.{Found}
 use Rattle.parts.specs.Parts.{part_by}
 use Rattle.fragment.specs.declared.CellCentre.{CellCentre}
-use Rattle.fragment.specs.declared.MaybeCellCentre.TheVariants.{Some, None}
 use Rattle.fragment.specs.declared.CellFragment.{CellFragment}
-use Rattle.fragment.specs.declared.CellFragmentAnswer.{CellFragmentAnswer}
-use Rattle.fragment.specs.declared.CellFragmentAnswer.TheVariants.{Entry, Refused}
-
--- the refusal in an answer; zeros where there is none
-unfoldable pub fragment_refusal : CellFragmentAnswer → Refusal
-fragment_refusal (Entry f n) = refuse 0 0 0
-fragment_refusal (Refused f) = f
 
 -- the centre
 abbrev pub centre_by : List Field → CellCentre
@@ -46,5 +38,5 @@ fragment_of p ts = record {
 }
 
 -- the fragment at a place
-unfoldable pub fragment_at : List ℕ → ℕ → CellFragmentAnswer
-fragment_at b p = read b 0 fragment p (λ ts q. Entry (fragment_of p ts) q) Refused
+unfoldable pub fragment_at : List ℕ → ℕ → Result (Found CellFragment) Refusal
+fragment_at b p = read b 0 fragment p (λ ts q. found_at (fragment_of p ts) q) Err

@@ -1,29 +1,19 @@
 -- What the steps of reading a fragment give, each over the rest of the table's lines.
 -- Assumes nothing: these are definitions.
-use Rattle.std.specs.Prelude.{ℕ, ◌+◌, Bool, true, false, List}
+use Rattle.std.specs.Prelude.{ℕ, ◌+◌, Bool, true, false, List, Some, None, Result, Err}
 use Rattle.format.specs.Digits.{value_at, twos}
-use Rattle.format.specs.Refusals.{refuse}
 use Rattle.format.specs.Syntax.{Field}
 use Rattle.format.specs.Tables.{delivery, centre, u}
 use Rattle.format.specs.ByName.{the}
-use Rattle.format.specs.At.{read}
+use Rattle.format.specs.At.{read, found_at}
 use Rattle.format.specs.declared.Refusal.{Refusal}
+use Rattle.format.specs.declared.Found.{Found}
 use Rattle.parts.specs.Parts.{part_by}
 use Rattle.fragment.specs.Fragment.{centre_by}
 use Rattle.fragment.specs.declared.CellCentre.{CellCentre}
-use Rattle.fragment.specs.declared.MaybeCellCentre.{MaybeCellCentre}
-use Rattle.fragment.specs.declared.MaybeCellCentre.TheVariants.{Some, None}
 use Rattle.fragment.specs.declared.CellFragment.{CellFragment}
-use Rattle.fragment.specs.declared.CellFragmentAnswer.{CellFragmentAnswer}
-use Rattle.fragment.specs.declared.CellFragmentAnswer.TheVariants.{Entry, Refused}
+use Rattle.fragment.specs.declared.Front.{Front}
 use Rattle.fragment.specs.declared.Lists.{Lists}
-use Rattle.fragment.specs.declared.ListsAnswer.{ListsAnswer}
-use Rattle.fragment.specs.declared.ListsAnswer.TheVariants as la
-
--- the refusal in an answer; zeros where there is none
-unfoldable pub lists_refusal : ListsAnswer → Refusal
-lists_refusal (la.Read l n) = refuse 0 0 0
-lists_refusal (la.Refused f) = f
 
 -- the lists whose fields start at the bit place p
 unfoldable pub lists_of : ℕ → List Field → Lists
@@ -35,36 +25,43 @@ lists_of p ts = record {
   reserved_obsolescent = the "reserved_zero_future_use_obsolescent" ts;
 }
 
-unfoldable pub lists_at : List ℕ → ℕ → ListsAnswer
-lists_at b p = read b 0 delivery p (λ ts q. la.Read (lists_of p ts) q) la.Refused
+unfoldable pub lists_at : List ℕ → ℕ → Result (Found Lists) Refusal
+lists_at b p = read b 0 delivery p (λ ts q. found_at (lists_of p ts) q) Err
 
--- a fragment of what stands before its lists, and the lists; r: the four reserved bits
-abbrev pub around : ℕ → Bool → Bool → MaybeCellCentre → ℕ → Lists → CellFragment
-around id first last k r l = record {
-  cell_fragment_id = id;
-  first_occurrence = first;
-  last_occurrence = last;
-  centre = k;
+-- a fragment of what stands before its lists, and the lists
+abbrev pub around : Front → Lists → CellFragment
+around f l = record {
+  cell_fragment_id = f.id;
+  first_occurrence = f.first;
+  last_occurrence = f.last;
+  centre = f.centre;
   delivery_system_ids = l.ids;
   new_delivery_systems = l.new;
   obsolescent_delivery_systems = l.obsolescent;
-  reserved_zero_future_use_4 = r;
+  reserved_zero_future_use_4 = f.reserved;
   reserved_zero_future_use_new = l.reserved_new;
   reserved_zero_future_use_obsolescent = l.reserved_obsolescent;
 }
 
 -- from the lists on
-unfoldable pub around_at : List ℕ → ℕ → Bool → Bool → MaybeCellCentre → ℕ → ℕ → CellFragmentAnswer
-around_at b id first last k r p = read b 0 delivery p (λ ts q. Entry (around id first last k r (lists_of p ts)) q) Refused
+unfoldable pub around_at : List ℕ → Front → ℕ → Result (Found CellFragment) Refusal
+around_at b f p = read b 0 delivery p (λ ts q. found_at (around f (lists_of p ts)) q) Err
+
+-- what stands before the lists of a first occurrence, which has a centre, and of any other, with its reserved bits r
+abbrev pub with_front : ℕ → Bool → CellCentre → Front
+with_front id last k = record { id = id; first = true; last = last; centre = Some k; reserved = 0 }
+
+abbrev pub without_front : ℕ → Bool → ℕ → Front
+without_front id last r = record { id = id; first = false; last = last; centre = None; reserved = r }
 
 -- from the centre on, and from the reserved bits that stand in its place
-unfoldable pub with_at : List ℕ → ℕ → Bool → ℕ → CellFragmentAnswer
-with_at b id last p = read b 0 centre p (λ ts q. Entry (around id true last (Some (centre_by ts)) 0 (lists_of p ts)) q) Refused
+unfoldable pub with_at : List ℕ → ℕ → Bool → ℕ → Result (Found CellFragment) Refusal
+with_at b id last p = read b 0 centre p (λ ts q. found_at (around (with_front id last (centre_by ts)) (lists_of p ts)) q) Err
 
-unfoldable pub without_at : List ℕ → ℕ → Bool → ℕ → CellFragmentAnswer
+unfoldable pub without_at : List ℕ → ℕ → Bool → ℕ → Result (Found CellFragment) Refusal
 without_at b id last p =
     read b 0 (u "reserved_zero_future_use_4" 4 delivery) p
-    (λ ts q. Entry (around id false last None (the "reserved_zero_future_use_4" ts) (lists_of p ts)) q) Refused
+    (λ ts q. found_at (around (without_front id last (the "reserved_zero_future_use_4" ts)) (lists_of p ts)) q) Err
 
 -- the centre that the bits at a place spell
 abbrev pub centre_of : List ℕ → ℕ → CellCentre

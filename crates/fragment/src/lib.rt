@@ -3,12 +3,13 @@
 
 ghost use Rattle.std.specs.Prelude.{◌≡◌};
 ghost use Rattle.bits.specs.Read.{Place, Room};
-ghost use Rattle.fragment.specs.Fragment.{fragment_at, fragment_refusal};
-ghost use Rattle.fragment.specs.Inner.{lists_at, lists_refusal, around_at, centre_of, with_at, without_at};
+ghost use Rattle.fragment.specs.Fragment.{fragment_at};
+ghost use Rattle.fragment.specs.Inner.{lists_at, around_at, centre_of, with_at, without_at};
 
-use bits::{Bits, read_u, refusal_of, signed_of, value_at};
-use format::Refusal;
-use parts::{Part, PartAnswer, part_refusal, read_part};
+use bit_reader::enough;
+use bits::{read_u, signed_of, value_at};
+use format::{Fault, Found, Refusal};
+use parts::{Part, read_part};
 use systems::read_systems;
 
 #[derive(Clone, Copy)]
@@ -22,17 +23,11 @@ pub struct CellCentre {
 }
 
 #[derive(Clone, Copy)]
-pub enum MaybeCellCentre {
-    Some(CellCentre),
-    None,
-}
-
-#[derive(Clone, Copy)]
 pub struct CellFragment {
     pub cell_fragment_id: u32,
     pub first_occurrence: bool,
     pub last_occurrence: bool,
-    pub centre: MaybeCellCentre,
+    pub centre: Option<CellCentre>,
     pub delivery_system_ids: Part,
     pub new_delivery_systems: Part,
     pub obsolescent_delivery_systems: Part,
@@ -41,11 +36,14 @@ pub struct CellFragment {
     pub reserved_zero_future_use_obsolescent: u8,
 }
 
-// What reading a fragment finds: the fragment and the place behind it, or why it is refused.
+// What stands before a fragment's lists; the four reserved bits are 0 where there is a centre in their place.
 #[derive(Clone, Copy)]
-pub enum CellFragmentAnswer {
-    Entry { fragment: CellFragment, next: u16 },
-    Refused(Refusal),
+struct Front {
+    id: u32,
+    first: bool,
+    last: bool,
+    centre: Option<CellCentre>,
+    reserved: u8,
 }
 
 // The three lists at a fragment's end, and the reserved bits before the second and the third.
@@ -58,76 +56,26 @@ struct Lists {
     reserved_obsolescent: u8,
 }
 
-#[derive(Clone, Copy)]
-enum ListsAnswer {
-    Read { lists: Lists, next: u16 },
-    Refused(Refusal),
-}
-
-// The refusal in an answer; zeros where the answer is a fragment.
-pub fn fragment_refusal(r: CellFragmentAnswer) -> Refusal
-    ensures { result ≡ fragment_refusal r }
-{
-    match r {
-        CellFragmentAnswer::Entry {
-            fragment: _,
-            next: _,
-        } => Refusal {
-            number: 0,
-            need: 0,
-            have: 0,
-        },
-        CellFragmentAnswer::Refused(f) => f,
-    }
-}
-
-// The refusal in an answer; zeros where the answer is lists.
-fn lists_refusal(r: ListsAnswer) -> Refusal
-    ensures { result ≡ lists_refusal r }
-{
-    match r {
-        ListsAnswer::Read { lists: _, next: _ } => Refusal {
-            number: 0,
-            need: 0,
-            have: 0,
-        },
-        ListsAnswer::Refused(f) => f,
-    }
-}
-
 // Reads the three lists; each is tested once, as a whole, behind its count, and then each system by its clock.
-fn read_lists(s: &[u8], at: u16) -> ListsAnswer
+fn read_lists(s: &[u8], at: u16) -> Result<Found<Lists>, Refusal>
     requires { Place s.now at }
     ensures { result ≡ lists_at s.now at }
 {
-    let r = read_part(s, at, 6, 32);
-    let PartAnswer::Read { part: ids, next } = r else {
-        return ListsAnswer::Refused(part_refusal(r));
-    };
-    let v = read_u(s, next, 6);
-    let Bits::Value { value: new_6, next } = v else {
-        return ListsAnswer::Refused(refusal_of(v));
-    };
-    let r = read_systems(s, next, 7);
-    let PartAnswer::Read { part: new, next } = r else {
-        return ListsAnswer::Refused(part_refusal(r));
-    };
-    let v = read_u(s, next, 6);
-    let Bits::Value { value: old_6, next } = v else {
-        return ListsAnswer::Refused(refusal_of(v));
-    };
-    let r = read_systems(s, next, 8);
-    let PartAnswer::Read { part: old, next } = r else {
-        return ListsAnswer::Refused(part_refusal(r));
-    };
-    let lists = Lists {
-        ids,
-        new,
-        obsolescent: old,
-        reserved_new: new_6 as u8,
-        reserved_obsolescent: old_6 as u8,
-    };
-    ListsAnswer::Read { lists, next }
+    let ids = read_part(s, at, Fault::IdsCut, 32)?;
+    let reserved_new = read_u(s, ids.next, 6)?;
+    let new = read_systems(s, reserved_new.next, Fault::NewSystemsCut)?;
+    let reserved_old = read_u(s, new.next, 6)?;
+    let old = read_systems(s, reserved_old.next, Fault::ObsolescentSystemsCut)?;
+    Ok(Found {
+        value: Lists {
+            ids: ids.value,
+            new: new.value,
+            obsolescent: old.value,
+            reserved_new: reserved_new.value as u8,
+            reserved_obsolescent: reserved_old.value as u8,
+        },
+        next: old.next,
+    })
 }
 
 // The centre at a place where all of it is there.
@@ -148,90 +96,71 @@ fn centre_at(s: &[u8], at: u16) -> CellCentre
 }
 
 // A fragment from what stands before its lists, with the lists at a place.
-fn around_lists(
-    s: &[u8],
-    at: u16,
-    id: u32,
-    first: bool,
-    last: bool,
-    centre: MaybeCellCentre,
-    reserved: u8,
-) -> CellFragmentAnswer
+fn around_lists(s: &[u8], at: u16, front: Front) -> Result<Found<CellFragment>, Refusal>
     requires { Place s.now at }
-    ensures { result ≡ around_at s.now id first last centre reserved at }
+    ensures { result ≡ around_at s.now front at }
 {
-    let l = read_lists(s, at);
-    let ListsAnswer::Read { lists, next } = l else {
-        return CellFragmentAnswer::Refused(lists_refusal(l));
-    };
-    let ids = lists.ids;
-    let new = lists.new;
-    let obsolescent = lists.obsolescent;
-    let fragment = CellFragment {
-        cell_fragment_id: id,
-        first_occurrence: first,
-        last_occurrence: last,
-        centre,
-        delivery_system_ids: ids,
-        new_delivery_systems: new,
-        obsolescent_delivery_systems: obsolescent,
-        reserved_zero_future_use_4: reserved,
-        reserved_zero_future_use_new: lists.reserved_new,
-        reserved_zero_future_use_obsolescent: lists.reserved_obsolescent,
-    };
-    CellFragmentAnswer::Entry { fragment, next }
+    let lists = read_lists(s, at)?;
+    Ok(Found {
+        value: CellFragment {
+            cell_fragment_id: front.id,
+            first_occurrence: front.first,
+            last_occurrence: front.last,
+            centre: front.centre,
+            delivery_system_ids: lists.value.ids,
+            new_delivery_systems: lists.value.new,
+            obsolescent_delivery_systems: lists.value.obsolescent,
+            reserved_zero_future_use_4: front.reserved,
+            reserved_zero_future_use_new: lists.value.reserved_new,
+            reserved_zero_future_use_obsolescent: lists.value.reserved_obsolescent,
+        },
+        next: lists.next,
+    })
 }
 
 // The rest of a fragment with a centre, behind its id and flags: the centre is tested once, as a whole.
-fn with_centre(s: &[u8], at: u16, id: u32, last: bool) -> CellFragmentAnswer
+fn with_centre(s: &[u8], at: u16, id: u32, last: bool) -> Result<Found<CellFragment>, Refusal>
     requires { Place s.now at }
     ensures { result ≡ with_at s.now id last at }
 {
-    let have = 8 * s.len() - at as usize;
-    if have < 76 {
-        return CellFragmentAnswer::Refused(Refusal {
-            number: 5,
-            need: 76,
-            have,
-        });
-    }
-    let centre = MaybeCellCentre::Some(centre_at(s, at));
-    around_lists(s, at + 76, id, true, last, centre, 0)
+    enough(s, at, Fault::CentreCut, 76)?;
+    let front = Front {
+        id,
+        first: true,
+        last,
+        centre: Some(centre_at(s, at)),
+        reserved: 0,
+    };
+    around_lists(s, at + 76, front)
 }
 
 // And of one without a centre.
-fn without_centre(s: &[u8], at: u16, id: u32, last: bool) -> CellFragmentAnswer
+fn without_centre(s: &[u8], at: u16, id: u32, last: bool) -> Result<Found<CellFragment>, Refusal>
     requires { Place s.now at }
     ensures { result ≡ without_at s.now id last at }
 {
-    let v = read_u(s, at, 4);
-    let Bits::Value { value, next } = v else {
-        return CellFragmentAnswer::Refused(refusal_of(v));
+    let reserved = read_u(s, at, 4)?;
+    let front = Front {
+        id,
+        first: false,
+        last,
+        centre: None,
+        reserved: reserved.value as u8,
     };
-    let reserved = value as u8;
-    around_lists(s, next, id, false, last, MaybeCellCentre::None, reserved)
+    around_lists(s, reserved.next, front)
 }
 
 // Reads the fragment at a place.
-pub fn read_fragment(s: &[u8], at: u16) -> CellFragmentAnswer
+pub fn read_fragment(s: &[u8], at: u16) -> Result<Found<CellFragment>, Refusal>
     requires { Place s.now at }
     ensures { result ≡ fragment_at s.now at }
 {
-    let v = read_u(s, at, 32);
-    let Bits::Value { value: id, next } = v else {
-        return CellFragmentAnswer::Refused(refusal_of(v));
-    };
-    let id = id as u32;
-    let v = read_u(s, next, 1);
-    let Bits::Value { value: first, next } = v else {
-        return CellFragmentAnswer::Refused(refusal_of(v));
-    };
-    let v = read_u(s, next, 1);
-    let Bits::Value { value: last, next } = v else {
-        return CellFragmentAnswer::Refused(refusal_of(v));
-    };
-    if first == 1 {
-        return with_centre(s, next, id, last == 1);
+    let id = read_u(s, at, 32)?;
+    let first = read_u(s, id.next, 1)?;
+    let last = read_u(s, first.next, 1)?;
+    if first.value == 1 {
+        with_centre(s, last.next, id.value as u32, last.value == 1)
+    } else {
+        without_centre(s, last.next, id.value as u32, last.value == 1)
     }
-    without_centre(s, next, id, last == 1)
 }

@@ -9,11 +9,12 @@ use native.Mathlib.Omega.{arith}
 use lib.Dec.{eqb}
 use lib.ListN.{length, take, drop, length-append, length-drop}
 use lib.Seq.{drop-drop}
-use borrow.Author.Tests.{le-leb, lt-leb, eq-eqb, ne_eqb, eqb-true, eqb-false}
+use borrow.Author.Tests.{le-leb, eq-eqb, ne_eqb, eqb-true, eqb-false}
 use borrow.Rule.Slice.PartMut.{mid_of, put_mid, same_len_mid}
+use Rattle.std.specs.Prelude.{Result, Err}
 use Rattle.format.specs.Digits.{Below, value, bits_of, splice}
-use Rattle.format.specs.Refusals.{refuse}
-use Rattle.format.specs.Syntax.{Syntax, Field, Edition, Parse, got, refused, and_then, push}
+use Rattle.format.specs.Syntax.{Syntax, Field, Parse, got, refused, and_then, push}
+use Rattle.format.specs.declared.Edition.{Edition}
 use Rattle.format.specs.Body.{laid}
 use Rattle.format.specs.Ledger.{read_ledger}
 use Rattle.format.specs.Whole.{laids, counted}
@@ -21,32 +22,18 @@ use Rattle.format.specs.declared.Refusal.{Refusal}
 use Rattle.format.proofs.DigitLaws.{length_bits}
 use Rattle.format.proofs.Good.{Fine}
 use Rattle.bits.proofs.Splices.{splice_splice, splice_nil}
-use Rattle.read_runs.specs.declared.Step.{Step}
-use Rattle.read_runs.specs.declared.Step.TheVariants.{Done, Refused}
+use Rattle.runs.specs.declared.Step.{Step}
 use Rattle.read_runs.specs.Came.{LedgerPlaced, Way, way_of, Halted}
 use Rattle.read_runs.proofs.Lent.{Starts, lent_bits}
 use Rattle.read_runs.proofs.Moved.{read_whole}
-use Rattle.read_plans.specs.Taken.{Took, TakenTo, Taken}
-use Rattle.ledger_reader.specs.Held.{listing, Held, Refuses, HoldsTo, Holds}
+use Rattle.read_plans.specs.Taken.{Took}
+use Rattle.ledger_reader.specs.Held.{listing, Held, Refuses, Holds}
 
 -- ---- what is known of an answer
 
-module _ {way : Way} {l out out' : List ℕ} {s : Syntax} {place at : ℕ} {r : Step} where
-  pub took : {a p v : ℕ} → r ≡ Done a p v → Taken way l s place at out out' r → Took way l s place at out p a out'
-  took q x = subst (λ (r : Step). TakenTo way l s place at out out' r) q x.to
-
-  pub untaken : {f : Refusal} → r ≡ Refused f → Taken way l s place at out out' r → Halted way l s place f
-  untaken q x = subst (λ (r : Step). TakenTo way l s place at out out' r) q x.to
-
-module _ {A : Type 0} {f : A → List ℕ} {l : List ℕ} {p : Parse A} {at : ℕ} {out out' : List ℕ} {r : Step} where
-  pub held : {a q v : ℕ} → r ≡ Done a q v → Holds f l p at out out' r → Held f l p at out q a out'
-  held e x = subst (λ (r : Step). HoldsTo f l p at out out' r) e x.to
-
-  pub unheld : {g : Refusal} → r ≡ Refused g → Holds f l p at out out' r → Refuses p g
-  unheld e x = subst (λ (r : Step). HoldsTo f l p at out out' r) e x.to
-
-  pub holds_no : {g : Refusal} → r ≡ Refused g → Refuses p g → Holds f l p at out out' r
-  holds_no e x = subst (λ (r : Step). Holds f l p at out out' r) (sym e) (record { to = x })
+module _ {A : Type 0} {f : A → List ℕ} {l : List ℕ} {p : Parse A} {at : ℕ} {out out' : List ℕ} {r : Result (Step ℕ) Refusal} where
+  pub holds_no : {g : Refusal} → r ≡ Err g → Refuses p g → Holds f l p at out out' r
+  holds_no e x = rw e (record { to = x })
 
   -- the same reading in other words
   pub holds_as : {p₁ : Parse A} → p ≡ p₁ → Holds f l p₁ at out out' r → Holds f l p at out out' r
@@ -171,11 +158,6 @@ module _ {ed : Edition} {l out₀ out : List ℕ} {s : Syntax} {place count at t
 -- ---- the count in front of them
 
 module _ (ed : Edition) (l : List ℕ) (s : Syntax) (place : ℕ) where
-  pub count_short : place ≤ length l → length l - place < 2 → Refuses (listing ed (length l) s (drop place l)) (refuse 23 place 0)
-  count_short h m =
-      let e : length l - length (drop place l) ≡ place = omega (arith, length-drop place l) in
-      record { reads = rw (lt-leb 2 (length (drop place l)) (omega (arith, length-drop place l)), e) }
-
   pub count_there : {count : ℕ} → 2 ≤ length l - place → count ≡ value 256 (take 2 (drop place l))
       → listing ed (length l) s (drop place l) ≡ counted ed (length l) s count (drop (place + 2) l)
   count_there m e = rw (le-leb 2 (length (drop place l)) (omega (arith, length-drop place l)), drop-drop 2 place l, e)

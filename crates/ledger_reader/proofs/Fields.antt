@@ -9,21 +9,23 @@ use lib.Dec.{leb}
 use lib.ListN.{length, drop, length-append, length-drop, drop_of_length-le}
 use lib.Seq.{drop-length}
 use borrow.Author.Tests.{ne_eqb}
+use Rattle.std.specs.Prelude.{Result, Ok, Err}
 use Rattle.format.specs.Digits.{bits_of, splice}
 use Rattle.format.specs.Refusals.{refuse}
-use Rattle.format.specs.Syntax.{Syntax, end, Edition, Parse, got, refused, and_then}
+use Rattle.format.specs.Syntax.{Syntax, end, Parse, got, refused, and_then}
+use Rattle.format.specs.declared.Edition.{Edition}
 use Rattle.format.specs.Body.{laid}
 use Rattle.format.specs.Ledger.{read_ledger, grant}
 use Rattle.format.specs.Whole.{Layout, sole, many, opaque, layout, one, list, as_it_is, laids, ended, content_as}
 use Rattle.format.specs.declared.Refusal.{Refusal}
+use Rattle.format.specs.declared.Fault.TheVariants.{LedgerMisfit}
 use Rattle.format.proofs.DigitLaws.{length_bits}
 use Rattle.format.proofs.Good.{Fine}
 use Rattle.format.proofs.TableLaws.{fine_layout}
 use Rattle.bits.proofs.Splices.{splice_splice, splice_nil}
 use Rattle.bits.proofs.Groups.{bits_splice}
 use Rattle.runs.specs.Stored.{stored}
-use Rattle.read_runs.specs.declared.Step.{Step}
-use Rattle.read_runs.specs.declared.Step.TheVariants.{Done, Refused}
+use Rattle.runs.specs.declared.Step.{Step}
 use Rattle.runs.proofs.Stores.{stored_fits}
 use Rattle.read_runs.specs.Came.{Way, way_of, Halted}
 use Rattle.read_runs.proofs.CameLaws.{laid_none}
@@ -61,11 +63,11 @@ headless (suc (suc (suc (suc n)))) h k = absurd (omega arith)
 
 module _ {ed : Edition} {l out out' : List ℕ} where
   -- one set of fields
-  pub sole_holds : {s : Syntax} {r : Step} → Taken (way_of ed true) l s 4 0 out out' r → Holds (bits_in ed) l (fields_as ed (length l) (sole s) (drop 4 l)) 0 out out' r
-  sole_holds {r = Done a p v} x =
+  pub sole_holds : {s : Syntax} {r : Result (Step ℕ) Refusal} → Taken (way_of ed true) l s 4 0 out out' r → Holds (bits_in ed) l (fields_as ed (length l) (sole s) (drop 4 l)) 0 out out' r
+  sole_holds {r = Ok j} x =
       let w = x.to in
       record { to = record { what = one w.ts; reads = rw w.reads; size = w.size; bits = w.bits; within = w.within } }
-  sole_holds {r = Refused f} x = record { to = record { reads = rw x.to.reads } }
+  sole_holds {r = Err f} x = record { to = record { reads = rw x.to.reads } }
 
 module _ (ed : Edition) {l out out' : List ℕ} where
   -- raw bytes
@@ -99,7 +101,7 @@ no_head {way} {out = out} h =
 grant_then : {A B : Type 0} (n : ℕ) (bs : List ℕ) (p : Parse A) (k : A → List ℕ → Parse B) → grant n 2 true bs (and_then p k) ≡ and_then (grant n 2 true bs p) k
 grant_then n bs p k = go (leb 2 (length bs))
   where
-    go : (t : Bool) → cond t (and_then p k) (refused 23 (n - length bs) 0) ≡ and_then (cond t p (refused 23 (n - length bs) 0)) k
+    go : (t : Bool) → cond t (and_then p k) (refused LedgerMisfit (n - length bs) 0) ≡ and_then (cond t p (refused LedgerMisfit (n - length bs) 0)) k
     go true = refl
     go false = refl
 
@@ -112,10 +114,10 @@ module _ (m : ℕ) (s : Syntax) {ed : Edition} {l : List ℕ} {h : Syntax} where
     after_head = rw w.reads (grant_then (length l) (drop place l) _ (λ es over. got (list w.ts es) over))
 
     -- the head's fields and the entries behind them
-    pub list_holds : {out' : List ℕ} {r : Step} → Holds (laids ed) l (listing ed (length l) s (drop place l)) at out₁ out' r
+    pub list_holds : {out' : List ℕ} {r : Result (Step ℕ) Refusal} → Holds (laids ed) l (listing ed (length l) s (drop place l)) at out₁ out' r
         → Holds (bits_in ed) l (fields_as ed (length l) (many h m s) (drop 4 l)) 0 out out' r
-    list_holds {r = Refused f} x = record { to = record { reads = after_head ∙ rw x.to.reads } }
-    list_holds {out'} {r = Done a p v} x =
+    list_holds {r = Err f} x = record { to = record { reads = after_head ∙ rw x.to.reads } }
+    list_holds {out'} {r = Ok j} x =
         let y = x.to in
         let b = laid ed w.ts in
         let c = laids ed y.what in
@@ -145,7 +147,7 @@ module _ (ed : Edition) (k : Layout) (l : List ℕ) where
   content_no x = record { reads = content_ended ed (length l) k (drop 4 l) ∙ rw x.reads }
 
   module _ {out out' : List ℕ} {place at : ℕ} (x : Held (bits_in ed) l (fields_as ed (length l) k (drop 4 l)) 0 out place at out') where
-    pub content_over : place < length l → Refuses (content_as ed (length l) k (drop 4 l)) (refuse 23 place 0)
+    pub content_over : place < length l → Refuses (content_as ed (length l) k (drop 4 l)) (refuse LedgerMisfit place 0)
     content_over h =
         let e : length l - length (drop place l) ≡ place = omega (arith, length-drop place l) in
         record { reads = content_ended ed (length l) k (drop 4 l) ∙ rw (x.reads, ne_eqb (length (drop place l)) 0 (λ z. omega (arith, length-drop place l)), e) }

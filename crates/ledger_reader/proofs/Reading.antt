@@ -1,31 +1,32 @@
 -- What the ledger reader answers and leaves, by the ledger's measure and what is laid the second time.
 -- Assumes nothing.
-use Prim.Native.Nat.{ℕ, ◌+◌, ◌≤◌, ◌<◌}
+use Prim.Native.Nat.{ℕ, ◌+◌, ◌≤◌}
 use mathlib.Core.Path.{◌≡◌, refl, sym, ap, ◌∙◌, subst}
+use mathlib.Core.Bool.{Bool, true, false, cond}
 use mathlib.Core.List.{List, [], ◌∷◌, ◌++◌}
 use native.Mathlib.Omega.{arith}
 use lib.ListN.{length, drop, length-append}
-use borrow.Author.Tests.{le-leb, lt-leb}
+use lib.Dec.{leb}
+use borrow.Author.Tests.{le-leb, leb-true}
+use Rattle.std.specs.Prelude.{Result, Ok, Err}
 use Rattle.format.specs.Digits.{digits, Below, bits_of, bytes_of, splice}
 use Rattle.format.specs.Refusals.{refuse}
-use Rattle.format.specs.Syntax.{Edition, Parse, got, refused, and_then}
+use Rattle.format.specs.Syntax.{Parse, got, refused, and_then}
+use Rattle.format.specs.declared.Edition.{Edition}
 use Rattle.format.specs.Whole.{layout, Layout, layout_before, Table, body_of, content_of, version, ledger_of, content_as, id_of, edition_of, ledger_read}
-use Rattle.format.specs.Calls.{answer, left, restored, read_answer, read_left}
+use Rattle.format.specs.Calls.{done, Fitted, answer, left, restored, read_answer, read_left}
 use Rattle.format.specs.declared.Refusal.{Refusal}
-use Rattle.format.specs.declared.Answer.{Answer}
-use Rattle.format.specs.declared.Answer.TheVariants.{Done, Refused}
+use Rattle.format.specs.declared.Output.{Output}
+use Rattle.format.specs.declared.Fault.TheVariants.{BufferTooShort}
 use Rattle.format.proofs.DigitLaws.{length_digits, length_bits, bytes_bits, below_append, below_drop}
 use Rattle.format.proofs.ParseLaws.{got_not_refused}
 use Rattle.format.proofs.TableLaws.{FineLayout, fine_layout, fine_before_layout, content_before, GoodTable, form_of, kept_form_of, good_form_of, kept_bytes, content_again}
 use Rattle.format.proofs.Demand.{ledger_all, ledger_again, read_accepted, accepted_good, ledger_length}
 use Rattle.bits.proofs.Groups.{bits_splice}
 use Rattle.bits.proofs.Splices.{length_splice}
-use Rattle.read_runs.specs.declared.Step.{Step}
-use Rattle.read_runs.specs.declared.Step.TheVariants as step
+use Rattle.runs.specs.declared.Step.{Step}
 use Rattle.ledger_reader.specs.Held.{Framed, bits_in, Holds}
-use Rattle.ledger_reader.specs.Measured.{measured, measure_of, measure_refusal}
-use Rattle.ledger_reader.specs.declared.Measure.{Measure}
-use Rattle.ledger_reader.specs.declared.Measure.TheVariants as measure
+use Rattle.ledger_reader.specs.Measured.{measured, measure_of}
 use Rattle.ledger_reader.proofs.Measuring.{body_bits}
 
 -- ---- bytes by their bits
@@ -49,21 +50,21 @@ body_bytes {t = t} ed x g = subst (Below 256) (kept_form_of ed t) (kept_bytes (g
 
 -- ---- a ledger that has a measure
 
-pub record Sized (l : List ℕ) (id n : ℕ) : Type 0 where
+pub record Sized (l : List ℕ) (o : Output) : Type 0 where
   pub table : Table
   pub reads : ledger_read l ≡ got table []
-  pub same : id ≡ id_of l
-  pub size : n ≡ length (body_of (edition_of l) table)
+  pub same : o.table_id ≡ id_of l
+  pub size : o.length ≡ length (body_of (edition_of l) table)
 
-pub has_size : {l : List ℕ} {m : Measure} {id n : ℕ} → m ≡ measure.Size id n → m ≡ measure_of l → Sized l id n
+pub has_size : {l : List ℕ} {o : Output} → Ok o ≡ measure_of l → Sized l o
 unfolding measure_of restored
-has_size {l} {m} {id} {n} q e = go (ledger_read l) refl (sym q ∙ e)
+has_size {l} {o} e = go (ledger_read l) refl e
   where
-    go : (p : Parse Table) → ledger_read l ≡ p → measure.Size id n ≡ measured (id_of l) (and_then p (λ t rest. got (body_of (edition_of l) t) [])) → Sized l id n
+    go : (p : Parse Table) → ledger_read l ≡ p → Ok o ≡ measured (id_of l) (and_then p (λ t rest. got (body_of (edition_of l) t) [])) → Sized l o
     go (got t rest) r z = record { table = t; reads = r ∙ ap (got t) (ledger_all l r); same = cc; size = cc }
     go (refused x y w) r z = let o : ◌≡◌ {A = ℕ} 0 1 = cc in absurd (omega arith)
 
-module _ {l : List ℕ} {id n : ℕ} (x : Sized l id n) (b : Below 256 l) where
+module _ {l : List ℕ} {o : Output} (x : Sized l o) (b : Below 256 l) where
   -- the layout without its tests, by which a ledger's fields are good
   fine : FineLayout (layout_before (layout (id_of l)))
   fine = fine_before_layout (layout (id_of l)) (fine_layout (id_of l))
@@ -97,41 +98,79 @@ module _ {l : List ℕ} {id n : ℕ} (x : Sized l id n) (b : Below 256 l) where
 
 -- ---- the answer, and what is left in the buffer
 
-abbrev pub Says : List ℕ → List ℕ → Answer → List ℕ → Type 0
+abbrev pub Says : List ℕ → List ℕ → Result Output Refusal → List ℕ → Type 0
 Says l out r out' = (r ≡ read_answer l (length out)) × (out' ≡ read_left l out)
 
-pub says_no : {m : Measure} {f g : Refusal} (l out : List ℕ) → m ≡ measure.Refused g → m ≡ measure_of l → f ≡ measure_refusal m → Says l out (Refused f) out
-unfolding measure_of measure_refusal restored read_answer read_left answer left
-says_no {m} {f} {g} l out q e z = rw (z ∙ ap measure_refusal q) (go (ledger_read l) (sym q ∙ e))
+pub says_no : {f : Refusal} {r : Result Output Refusal} (l out : List ℕ) → r ≡ Err f → Err f ≡ measure_of l → Says l out r out
+unfolding measure_of restored read_answer read_left answer left
+says_no {f} l out q e = rw q (go (ledger_read l) e)
   where
-    go : (p : Parse Table) → measure.Refused g ≡ measured (id_of l) (and_then p (λ t rest. got (body_of (edition_of l) t) []))
-        → (Refused g ≡ answer (id_of l) (length out) (and_then p (λ t rest. got (body_of (edition_of l) t) []))) × (out ≡ left out (and_then p (λ t rest. got (body_of (edition_of l) t) [])))
+    go : (p : Parse Table) → Err f ≡ measured (id_of l) (and_then p (λ t rest. got (body_of (edition_of l) t) []))
+        → (Err f ≡ answer (id_of l) (length out) (and_then p (λ t rest. got (body_of (edition_of l) t) [])))
+        × (out ≡ left out (and_then p (λ t rest. got (body_of (edition_of l) t) [])))
     go (got t rest) z = let o : ◌≡◌ {A = ℕ} 0 1 = cc in absurd (omega arith)
-    go (refused x y w) z = let f : g ≡ refuse x y w = cc in (ap Refused f, refl)
+    go (refused x y w) z = let f : f ≡ refuse x y w = cc in (ap Err f, refl)
 
-module _ {l : List ℕ} {id n : ℕ} (x : Sized l id n) (out : List ℕ) where
-  pub says_short : length out < n → Says l out (Refused (refuse 22 n (length out))) out
-  unfolding restored read_answer read_left answer left
-  says_short h = (rw (x.reads, ← x.size, lt-leb n (length out) h), rw (x.reads, ← x.size, lt-leb n (length out) h))
+module _ {l : List ℕ} {o : Output} (x : Sized l o) (out : List ℕ) where
+  -- what `fitted` answers is the answer
+  pub says : {r : Result Output Refusal} → Fitted o.table_id o.length (length out) r → r ≡ read_answer l (length out)
+  unfolding restored read_answer
+  says k = k.is (body_of (edition_of l) x.table) [] x.size ∙ rw (x.same, x.reads)
+
+  -- where it is a refusal, the result is too long, and the buffer stays as it was
+  pub says_short : {r : Result Output Refusal} {f : Refusal} → r ≡ Err f → Fitted o.table_id o.length (length out) (Err f) → Says l out r out
+  unfolding restored read_left answer left
+  says_short {f = f} q k = (rw q (says k), rw x.reads (go _ _ _ _ (leb (length (body_of (edition_of l) x.table)) (length out)) (k.is (body_of (edition_of l) x.table) [] x.size)))
+    where
+      go : (i n w : ℕ) (b : List ℕ) (t : Bool) → Err f ≡ cond t (done i n) (Err (refuse BufferTooShort n w)) → out ≡ cond t (splice out 0 b) out
+      go i n w b true e = let o : ◌≡◌ {A = ℕ} 0 1 = cc in absurd (omega arith)
+      go i n w b false e = refl
+
+  -- where it is not, there is room
+  fits : {a : Output} → Fitted o.table_id o.length (length out) (Ok a) → o.length ≤ length out
+  unfolding answer
+  fits {a} k = rw x.size (go _ _ _ (leb (length (body_of (edition_of l) x.table)) (length out)) refl (k.is (body_of (edition_of l) x.table) [] x.size))
+    where
+      go : (i n w : ℕ) (t : Bool) → leb (length (body_of (edition_of l) x.table)) (length out) ≡ t → Ok a ≡ cond t (done i n) (Err (refuse BufferTooShort n w))
+          → length (body_of (edition_of l) x.table) ≤ length out
+      go i n w true h e = leb-true _ _ h
+      go i n w false h e = let o : ◌≡◌ {A = ℕ} 0 1 = cc in absurd (omega arith)
 
   -- the second time, the same table is laid
-  again : (out' : List ℕ) (r : Step) → content_as (edition_of l) (length l) (layout (id_of l)) (drop 4 l) ≡ got x.table [] → bits_of (body_of (edition_of l) x.table) ≡ bits_in (edition_of l) x.table → n ≤ length out
-      → Holds (bits_in (edition_of l)) l (content_as (edition_of l) (length l) (layout (id_of l)) (drop 4 l)) 0 out out' r → bits_of out' ≡ splice (bits_of out) 0 (bits_of (body_of (edition_of l) x.table))
-  again out' (step.Done a q v) c p m y =
+  again : {j : Step ℕ} (out' : List ℕ) → content_as (edition_of l) (length l) (layout (id_of l)) (drop 4 l) ≡ got x.table []
+      → bits_of (body_of (edition_of l) x.table) ≡ bits_in (edition_of l) x.table → o.length ≤ length out
+      → Holds (bits_in (edition_of l)) l (content_as (edition_of l) (length l) (layout (id_of l)) (drop 4 l)) 0 out out' (Ok j)
+      → bits_of out' ≡ splice (bits_of out) 0 (bits_of (body_of (edition_of l) x.table))
+  again {j} out' c p m y =
       let z = y.to in
-      let e : got z.what (drop q l) ≡ got x.table [] = sym z.reads ∙ c in
+      let e : got z.what (drop j.place l) ≡ got x.table [] = sym z.reads ∙ c in
       let w : z.what ≡ x.table = cc in
       let f : bits_in (edition_of l) z.what ≡ bits_of (body_of (edition_of l) x.table) = ap (bits_in (edition_of l)) w ∙ sym p in
       z.bits (omega (arith, z.size, ap length f, length_bits (body_of (edition_of l) x.table), x.size)) ∙ ap (splice (bits_of out) 0) f
-  again out' (step.Refused g) c p m y = absurd (got_not_refused (sym c ∙ y.to.reads))
 
-  pub says_yes : {out' : List ℕ} {r : Step} → Below 256 l → Below 256 out → Below 256 out' → length out' ≡ length out → n ≤ length out
-      → Holds (bits_in (edition_of l)) l (content_as (edition_of l) (length l) (layout id) (drop 4 l)) 0 out out' r → Says l out (Done id n) out'
-  unfolding restored read_answer read_left answer left
-  says_yes {out'} {r} b ho ho' k m y =
+  -- what is laid, in the words that the ledger itself has for its edition and its table id
+  abbrev Laying : Edition → List ℕ → Result (Step ℕ) Refusal → Type 0
+  Laying ed out' r = Holds (bits_in ed) l (content_as ed (length l) (layout o.table_id) (drop 4 l)) 0 out out' r
+
+  by_ledger : {ed : Edition} {out' : List ℕ} {r : Result (Step ℕ) Refusal} → ed ≡ edition_of l → Laying ed out' r
+      → Holds (bits_in (edition_of l)) l (content_as (edition_of l) (length l) (layout (id_of l)) (drop 4 l)) 0 out out' r
+  by_ledger {out' = out'} {r} e y =
+      let z : Laying (edition_of l) out' r = subst (λ (ed : Edition). Laying ed out' r) e y in
+      rw x.same at z
+
+  -- and nothing is refused
+  pub says_never : {ed : Edition} {out' : List ℕ} {g : Refusal} → Below 256 l → ed ≡ edition_of l → Laying ed out' (Err g) → ⊥
+  says_never b e y = got_not_refused (sym (content x b) ∙ (by_ledger e y).to.reads)
+
+  pub says_yes : {ed : Edition} {a : Output} {out' : List ℕ} {j : Step ℕ} → Below 256 l → Below 256 out → Below 256 out' → length out' ≡ length out
+      → Fitted o.table_id o.length (length out) (Ok a) → ed ≡ edition_of l → Laying ed out' (Ok j) → Says l out (Ok a) out'
+  unfolding restored read_left left
+  says_yes {out' = out'} b ho ho' k fit e y =
       let t = x.table in
       let g = good x b in
-      let i = x.same in
-      let o : out' ≡ splice out 0 (body_of (edition_of l) t) =
-      bytes_front out out' (body_of (edition_of l) t) ho ho' (body_bytes (edition_of l) (fine x b) g) k (omega (arith, x.size)) (again out' r (content x b) (body_bits (edition_of l) (fine x b) g) m (rw i at y)) in
-      (rw (x.reads, ← x.size, le-leb n (length out) m, i), rw (x.reads, ← x.size, le-leb n (length out) m) o)
+      let m = fits fit in
+      let p = body_bits (edition_of l) (fine x b) g in
+      let e : out' ≡ splice out 0 (body_of (edition_of l) t) =
+      bytes_front out out' (body_of (edition_of l) t) ho ho' (body_bytes (edition_of l) (fine x b) g) k (omega (arith, x.size))
+      (again out' (content x b) p m (by_ledger e y)) in
+      (says fit, rw (x.reads, ← x.size, le-leb o.length (length out) m) e)

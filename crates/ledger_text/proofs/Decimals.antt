@@ -1,7 +1,8 @@
 -- What `decimal` spells: every number of 64 bits, by its digits.
 -- Assumes nothing.
 use Prim.Native.Nat.{ℕ, zero, suc, ◌+◌, ◌*◌, ◌/◌, ◌%◌, ◌^◌, ◌≤◌, ◌<◌}
-use native.Mathlib.Nat.{add-mul, mul_assoc, mul_comm, add_assoc, pow-zero, pow-suc, div-add-mod', div-lt_iff_lt-mul, mod-lt}
+use native.Mathlib.Nat.{add-mul, mul_assoc, mul_comm, add_assoc, pow-zero, pow-suc}
+use native.Mathlib.Nat.{div-add-mod', div-lt_iff_lt-mul, mod-lt}
 use native.Mathlib.Omega.{arith}
 use mathlib.Core.Path.{◌≡◌, refl, ap, subst, ◌∙◌}
 use mathlib.Core.List.{List, [], ◌∷◌, map}
@@ -37,11 +38,14 @@ unfolding digits_before value
 before zero m later h b l =
     let e : m ≡ 0 = omega (arith, rw (pow-zero 10) at h) in
     record { digits = later; codes = refl; below = b; number = rw e (omega arith); leads = l e }
-before (suc k) zero later h b l = record { digits = later; codes = refl; below = b; number = omega arith; leads = l refl }
+before (suc k) zero later h b l =
+    record { digits = later; codes = refl; below = b; number = omega arith; leads = l refl }
 before (suc k) (suc m) later h b l =
     let n = suc m in
-    let less : n / 10 < 10 ^ k = (div-lt_iff_lt-mul {k = 10} {x = n} {y = 10 ^ k} (omega arith)).1 (rw (pow-suc 10 k) at h) in
-    let l' : n / 10 ≡ 0 → Leads (n % 10 ∷ later) = λ e. record { some_digit = omega arith; leading = λ z. absurd (omega arith) } in
+    let less : n / 10 < 10 ^ k =
+    (div-lt_iff_lt-mul {k = 10} {x = n} {y = 10 ^ k} (omega arith)).1 (rw (pow-suc 10 k) at h) in
+    let l' : n / 10 ≡ 0 → Leads (n % 10 ∷ later) =
+    λ e. record { some_digit = omega arith; leading = λ z. absurd (omega arith) } in
     let s = before k (n / 10) (n % 10 ∷ later) less (mod-lt n (omega arith), b) l' in
     let p : ℕ = 10 ^ length later in
     let v : ℕ = value 10 later in

@@ -1,56 +1,46 @@
--- How the lines grow store by store.
+-- That the library's texts are those of the definitions, and how a line is stored.
 -- Assumes nothing.
-use Prim.Native.Nat.{ℕ, zero, suc, ◌+◌, ◌*◌, ◌-◌, ◌/◌, ◌%◌, ◌≤◌, ◌<◌}
-use mathlib.Core.Path.{◌≡◌, refl, sym, ap, subst, ◌∙◌}
-use mathlib.Core.List.{List, [], ◌∷◌, ◌++◌, append_assoc}
-use mathlib.Core.Bool.{Bool, true, false, cond}
-use lib.Dec.{leb}
-use native.Mathlib.Numerals.{add-one}
+use Prim.Native.Nat.{ℕ, zero, suc, ◌+◌, ◌*◌, ◌/◌, ◌%◌, ◌^◌, ◌≤◌, ◌<◌}
+use mathlib.Core.Path.{◌≡◌, refl, sym, ap, ◌∙◌}
+use mathlib.Core.List.{List, [], ◌∷◌, ◌++◌, append-nil, append_assoc}
 use native.Mathlib.Omega.{arith}
 use borrow.Author.Tests.{le-leb, lt-leb}
-use lib.ListN.{length, take, drop, get_or, set, length-set, length-append, length-drop}
-use lib.Seq.{take_at, take-suc, take_all, length-take-le, drop-length}
-use Rattle.format.specs.Digits.{splice}
+use lib.ListN.{length, drop, set, get_or, length-append}
+use Rattle.std.specs.Prelude.{Option, Some, None, Result, Ok, Err, IsOk, OnOk, slice_index}
+use Rattle.std.specs.Fmt.{decimal as printed}
+use Rattle.std.proofs.lemmas.Fmt.{PrependsLastDigit, decimal_from_prepends, length-decimal-le}
+use Rattle.hex.specs.Hex.{encode_with, encode_lower, lower_digits}
+use Rattle.format.specs.Digits.{Below, splice}
 use Rattle.format.specs.Calls.{left}
-use Rattle.bits.proofs.Splices.{length_splice, splice_splice, splice_nil, set_one}
-use Rattle.ledger_text.specs.Text.{hex_digit, hex_text, hex_line, decimal, digits_before, spaced, refusal_line, Stored, Numbered}
+use Rattle.format.proofs.DigitLaws.{below_of}
+use Rattle.bits.proofs.Splices.{length_splice, splice_splice, set_one}
+use Rattle.ledger_text.specs.Text.{hex_digit, hex_text, hex_line, decimal, digits_before, spaced, refusal_line, Stored}
 
--- one more element behind those stored
-pub store_next : (l : List ℕ) {out : List ℕ} (at : ℕ) (xs : List ℕ) (n x : ℕ) → out ≡ splice l at xs → n ≡ at + length xs → n < length l
-    → set out n x ≡ splice l at (xs ++ (x ∷ []))
-store_next l {out} at xs n x e p h =
-    let long : length out ≡ length l = rw e (length_splice l at xs (omega arith)) in
-    set_one out n x (omega arith) ∙ ap (λ (o : List ℕ). splice o n (x ∷ [])) e ∙ splice_splice l at xs (x ∷ []) n p (omega arith)
+-- ---- bytes in hexadecimal
 
--- i bytes are copied; there is room for all
-pub record Putting (bytes out₀ : List ℕ) (at i : ℕ) (out : List ℕ) : Type 0 where
-  pub index : i ≤ length bytes
-  pub room : at + length bytes ≤ length out₀
-  pub list : out ≡ splice out₀ at (take i bytes)
+-- the values of f at n numbers from k on
+values : (ℕ → ℕ) → ℕ → ℕ → List ℕ
+values f k zero = []
+values f k (suc n) = f k ∷ values f (suc k) n
 
-module _ {bytes out₀ : List ℕ} {at : ℕ} where
-  pub put_none : at + length bytes ≤ length out₀ → Putting bytes out₀ at 0 out₀
-  put_none h = record { index = omega arith; room = h; list = sym (splice_nil out₀ at) }
+value_in : (f : ℕ → ℕ) (k n d : ℕ) → d < n → slice_index (values f k n) d ≡ f (d + k)
+unfolding values
+value_in f k zero d h = absurd (omega arith)
+value_in f k (suc n) zero h = ap f (omega arith)
+value_in f k (suc n) (suc d) h = value_in f (suc k) n d (omega arith) ∙ ap f (omega arith)
 
-  module _ {out : List ℕ} {i : ℕ} (st : Putting bytes out₀ at i out) where
-    size : length (take i bytes) ≡ i
-    size = length-take-le i bytes st.index
+digit_is : (d : ℕ) → d < 16 → slice_index lower_digits d ≡ hex_digit d
+unfolding hex_digit values
+digit_is d h = value_in hex_digit 0 16 d h ∙ ap hex_digit (omega arith)
 
-    pub put_long_lem : length out ≡ length out₀
-    put_long_lem = rw st.list (length_splice out₀ at (take i bytes) (omega (arith, size, st.index, st.room)))
-
-    pub put_more : i < length bytes → Putting bytes out₀ at (i + 1) (set out (at + i) (get_or bytes i 0))
-    put_more h =
-        let x = get_or bytes i 0 in
-        let e : take (i + 1) bytes ≡ take i bytes ++ (x ∷ []) = rw (add-one i) (take-suc bytes i 0 h) in
-        record {
-          index = omega arith;
-          room = st.room;
-          list = store_next out₀ at (take i bytes) (at + i) x st.list (omega (arith, size)) (omega (arith, st.room)) ∙ ap (splice out₀ at) (sym e);
-        }
-
-    pub put_all : length bytes ≤ i → out ≡ splice out₀ at bytes
-    put_all h = st.list ∙ ap (splice out₀ at) (take_all i bytes h)
+pub hex_is : (xs : List ℕ) → Below 256 xs → encode_lower xs ≡ hex_text xs
+unfolding hex_text encode_with
+hex_is [] h = refl
+hex_is (x ∷ xs) h =
+    let high = digit_is (x / 16) (omega (arith, h.0)) in
+    let low = digit_is (x % 16) (omega arith) in
+    let rest = hex_is xs h.1 in
+    cc
 
 -- two digits a byte
 pub hex_length : (xs : List ℕ) → length (hex_text xs) ≡ 2 * length xs
@@ -58,104 +48,58 @@ unfolding hex_text
 hex_length [] = refl
 hex_length (x ∷ xs) = let e = hex_length xs in omega arith
 
-hex_one : (xs : List ℕ) (x : ℕ) → hex_text (xs ++ (x ∷ [])) ≡ (hex_text xs ++ (hex_digit (x / 16) ∷ [])) ++ (hex_digit (x % 16) ∷ [])
-unfolding hex_text
-hex_one [] x = refl
-hex_one (y ∷ xs) x = ap (λ (t : List ℕ). hex_digit (y / 16) ∷ hex_digit (y % 16) ∷ t) (hex_one xs x)
+pub hex_line_length : (xs : List ℕ) → length (hex_line xs) ≡ 2 * length xs + 1
+unfolding hex_line
+hex_line_length xs = length-append (hex_text xs) (10 ∷ []) ∙ ap (λ (n : ℕ). n + 1) (hex_length xs)
 
--- the digits of i bytes are stored; there is room for all
-pub record Hexing (bytes out₀ : List ℕ) (i : ℕ) (out : List ℕ) : Type 0 where
-  pub index : i ≤ length bytes
-  pub room : 2 * length bytes ≤ length out₀
-  pub list : out ≡ splice out₀ 0 (hex_text (take i bytes))
+-- ---- a number in decimal
 
-module _ {bytes out₀ : List ℕ} where
-  pub hex_none : 2 * length bytes ≤ length out₀ → Hexing bytes out₀ 0 out₀
-  unfolding hex_text
-  hex_none h = record { index = omega arith; room = h; list = sym (splice_nil out₀ 0) }
+-- n's digits in front of those that are there, in k steps
+spelling : ℕ → ℕ → List ℕ → List ℕ
+spelling zero n later = later
+spelling (suc k) n later = digits_before k (n / 10) ((48 + n % 10) ∷ later)
 
-  module _ {out : List ℕ} {i : ℕ} (st : Hexing bytes out₀ i out) where
-    hex_size : length (hex_text (take i bytes)) ≡ 2 * i
-    hex_size = let e = hex_length (take i bytes) in let f = length-take-le i bytes st.index in omega arith
-
-    pub hex_long : length out ≡ length out₀
-    hex_long = rw st.list (length_splice out₀ 0 (hex_text (take i bytes)) (omega (arith, hex_size, st.index, st.room)))
-
-    pub hex_more : (a b : ℕ) → a ≡ hex_digit (get_or bytes i 0 / 16) → b ≡ hex_digit (get_or bytes i 0 % 16) → i < length bytes
-        → Hexing bytes out₀ (i + 1) (set (set out (2 * i) a) (2 * i + 1) b)
-    hex_more a b p q h =
-        let x = get_or bytes i 0 in
-        let t = hex_text (take i bytes) in
-        let e : take (i + 1) bytes ≡ take i bytes ++ (x ∷ []) = rw (add-one i) (take-suc bytes i 0 h) in
-        let f : hex_text (take (i + 1) bytes) ≡ (t ++ (a ∷ [])) ++ (b ∷ []) = rw (e, p, q) (hex_one (take i bytes) x) in
-        let one = store_next out₀ 0 t (2 * i) a st.list (omega (arith, hex_size)) (omega (arith, st.room)) in
-        let n : length (t ++ (a ∷ [])) ≡ 2 * i + 1 = simp (length-append, hex_size) refl in
-        let two = store_next out₀ 0 (t ++ (a ∷ [])) (2 * i + 1) b one (omega (arith, n)) (omega (arith, st.room)) in
-        record { index = omega arith; room = st.room; list = two ∙ ap (splice out₀ 0) (sym f) }
-
-    pub hex_all : length bytes ≤ i → out ≡ splice out₀ 0 (hex_text bytes)
-    hex_all h = st.list ∙ ap (λ (l : List ℕ). splice out₀ 0 (hex_text l)) (take_all i bytes h)
-
--- the digits from i on are stored, and those of `rest` come before them
-pub record Spelling (n i rest : ℕ) (text : List ℕ) : Type 0 where
-  pub size : length text ≡ 20
-  pub index : i ≤ 19
-  pub list : digits_before i rest (drop i text) ≡ decimal n
-
-drop_set : (l : List ℕ) (i x : ℕ) → i < length l → drop i (set l i x) ≡ x ∷ drop (suc i) l
-drop_set [] i x h = absurd (omega arith)
-drop_set (y ∷ l) zero x h = refl
-drop_set (y ∷ l) (suc i) x h = drop_set l i x (omega arith)
-
-pub spell_last : (n : ℕ) (text : List ℕ) → length text ≡ 20 → Spelling n 19 (n / 10) (set text 19 (48 + n % 10))
-unfolding decimal
-spell_last n text h =
-    let d : drop 20 text ≡ [] = ap (λ (k : ℕ). drop k text) (sym h) ∙ drop-length text in
-    record { size = length-set text 19 (48 + n % 10) ∙ h; index = omega arith; list = rw (drop_set text 19 (48 + n % 10) (omega arith), d) refl }
-
-turn : (k rest : ℕ) (later : List ℕ) → 0 < rest → digits_before (suc k) rest later ≡ digits_before k (rest / 10) ((48 + rest % 10) ∷ later)
-unfolding digits_before
-turn k zero later h = absurd (omega arith)
-turn k (suc m) later h = refl
-
-spell_at : (n k rest : ℕ) (text : List ℕ) → Spelling n (suc k) rest text → 0 < rest → Spelling n k (rest / 10) (set text k (48 + rest % 10))
-spell_at n k rest text st p = record {
-  size = length-set text k (48 + rest % 10) ∙ st.size;
-  index = omega (arith, st.index);
-  list = rw (drop_set text k (48 + rest % 10) (omega (arith, st.index, st.size))) (sym (turn k rest (drop (suc k) text) p) ∙ st.list);
-}
-
-pub spell_more : {n i rest : ℕ} {text : List ℕ} → Spelling n i rest text → 0 < i → 0 < rest
-    → Spelling n (i - 1) (rest / 10) (set text (i - 1) (48 + rest % 10))
-spell_more {n} {i} {rest} {text} st h p =
-    let z : i ≡ suc (i - 1) = omega arith in
-    spell_at n (i - 1) rest text (subst (λ (k : ℕ). Spelling n k rest text) z st) p
-
-none_left : (i : ℕ) (later : List ℕ) → digits_before i 0 later ≡ later
+none_left : (k : ℕ) (later : List ℕ) → digits_before k 0 later ≡ later
 unfolding digits_before
 none_left zero later = refl
 none_left (suc k) later = refl
 
-no_place : (rest : ℕ) (later : List ℕ) → digits_before 0 rest later ≡ later
-unfolding digits_before
-no_place rest later = refl
+turn : (k m : ℕ) (later : List ℕ) → 0 < m → digits_before k m later ≡ spelling k m later
+unfolding digits_before spelling
+turn zero m later h = refl
+turn (suc k) zero later h = absurd (omega arith)
+turn (suc k) (suc m) later h = refl
 
-pub spelt : {n i rest : ℕ} {text : List ℕ} → Spelling n i rest text → rest ≡ 0 → drop i text ≡ decimal n
-spelt {n} {i} {rest} {text} st e = sym (none_left i (drop i text)) ∙ (rw e at st.list)
+last : (k n : ℕ) (later : List ℕ) → n < 10 → spelling (suc k) n later ≡ (48 + n) ∷ later
+unfolding spelling
+last k n later h =
+    let none : n / 10 ≡ 0 = omega arith in
+    let same : n % 10 ≡ n = omega arith in
+    rw (none, same) (none_left k ((48 + n) ∷ later))
 
-pub spelt_full : {n i rest : ℕ} {text : List ℕ} → Spelling n i rest text → i ≡ 0 → drop i text ≡ decimal n
-spelt_full {n} {i} {rest} {text} st e = rw e (sym (no_place rest (drop 0 text)) ∙ (rw e at st.list))
+prepends : PrependsLastDigit spelling
+unfolding spelling
+prepends = record { one = last; more = λ k n later h. turn k (n / 10) ((48 + n % 10) ∷ later) (omega arith) }
 
--- a line that is stored, and one for which there is no room
-pub stored_whole : (line l out : List ℕ) (r : ℕ) → length line ≤ length l → r ≡ length line → out ≡ splice l 0 line → Stored line l out r
+pub decimal_is : (n : ℕ) → n < 2 ^ 64 → printed n ≡ decimal n
+unfolding decimal spelling
+decimal_is n h =
+    let short = length-decimal-le 20 n (omega arith) (omega arith) h in
+    sym (decimal_from_prepends spelling prepends 20 n [] h short ∙ append-nil (printed n))
+
+-- ---- a line that is stored, and one for which there is no room
+
+pub stored_whole : (line l out : List ℕ) (r : Option ℕ) → length line ≤ length l → r ≡ Some (length line)
+    → out ≡ splice l 0 line → Stored line l out r
 unfolding left
 stored_whole line l out r h p q = let t = le-leb (length line) (length l) h in record { size = rw t p; bytes = rw t q }
 
-pub too_short : (line l : List ℕ) → length l < length line → Stored line l l 0
+pub too_short : (line l : List ℕ) → length l < length line → Stored line l l None
 unfolding left
 too_short line l h = let t = lt-leb (length line) (length l) h in record { size = rw t; bytes = rw t }
 
-pub stored_fits : {line l out : List ℕ} {r : ℕ} → Stored line l out r → length line ≤ length l → (r ≡ length line) × (out ≡ splice l 0 line)
+pub stored_fits : {line l out : List ℕ} {r : Option ℕ} → Stored line l out r → length line ≤ length l
+    → (r ≡ Some (length line)) × (out ≡ splice l 0 line)
 unfolding left
 stored_fits {line} {l} s h = let t = le-leb (length line) (length l) h in (rw t at s.size, rw t at s.bytes)
 
@@ -164,75 +108,51 @@ pub splice_long : (l xs : List ℕ) → length xs ≤ length (splice l 0 xs)
 unfolding splice
 splice_long l xs = simp length-append (omega arith)
 
-pub stored_within : {line l out : List ℕ} {r : ℕ} → Stored line l out r → r ≤ length out
-unfolding left
-stored_within {line} {l} s = go (leb (length line) (length l)) s.size s.bytes
-  where
-    go : {out : List ℕ} {r : ℕ} (t : Bool) → r ≡ cond t (length line) 0 → out ≡ cond t (splice l 0 line) l → r ≤ length out
-    go true p q = rw (p, q) (splice_long l line)
-    go false p q = rw p (omega arith)
+-- what holds of a value holds where there is one
+ok_then : {T E : Type 0} (r : Result T E) {P : Type 0} → IsOk r → OnOk r P → P
+ok_then (Ok x) h p = p
+ok_then (Err e) h p = absurd (cc)
 
--- what is stored at the start
-taken : (l xs : List ℕ) (n : ℕ) → length xs ≡ n → take n (splice l 0 xs) ≡ xs
+-- a line of its own length in front of the rest of the buffer
+in_front : (l line : List ℕ) → line ++ drop (length line) l ≡ splice l 0 line
 unfolding splice
-taken l xs n e = take_at xs (drop (0 + length xs) l) n e
+in_front l line = ap (λ (n : ℕ). line ++ drop n l) (omega arith)
 
--- a line whose last byte is stored behind the others
-module _ (xs l : List ℕ) {out : List ℕ} (n x : ℕ) (e : out ≡ splice l 0 xs) (p : n ≡ length xs) (h : n < length l) where
-  longer : length (xs ++ (x ∷ [])) ≡ n + 1
-  longer = simp (length-append, sym p) refl
+pub put_stored : (line l o : List ℕ) → length line ≤ length l → o ≡ line
+    → Stored line l (o ++ drop (length line) l) (Some (length line))
+put_stored line l o h e = stored_whole line l _ _ h refl (rw e (in_front l line))
 
-  all_bytes : set out n x ≡ splice l 0 (xs ++ (x ∷ []))
-  all_bytes = store_next l 0 xs n x e (omega arith) h
-
-  ended : Stored (xs ++ (x ∷ [])) l (set out n x) (n + 1)
-  ended = stored_whole (xs ++ (x ∷ [])) l (set out n x) (n + 1) (omega (arith, longer)) (sym longer) all_bytes
-
-  laid : take (n + 1) (set out n x) ≡ xs ++ (x ∷ [])
-  laid = ap (take (n + 1)) all_bytes ∙ taken l (xs ++ (x ∷ [])) (n + 1) longer
-
-pub hex_line_length : (xs : List ℕ) → length (hex_line xs) ≡ 2 * length xs + 1
-unfolding hex_line
-hex_line_length xs = length-append (hex_text xs) (10 ∷ []) ∙ ap (λ (n : ℕ). n + 1) (hex_length xs)
-
-pub hex_short : (bytes l : List ℕ) → length l < 2 * length bytes + 1 → Stored (hex_line bytes) l l 0
+pub hex_short : (bytes l : List ℕ) → length l ≤ 2 * length bytes → Stored (hex_line bytes) l l None
 hex_short bytes l h = too_short (hex_line bytes) l (omega (arith, hex_line_length bytes))
 
-pub hex_stored : (bytes l out : List ℕ) → out ≡ splice l 0 (hex_text bytes) → 2 * length bytes + 1 ≤ length l
-    → Stored (hex_line bytes) l (set out (2 * length bytes) 10) (2 * length bytes + 1)
+-- the digits that the library laid, and the newline behind them
+pub hex_stored : {E : Type 0} (r : Result (Unit {0}) E) (bytes l o : List ℕ) → ((i : ℕ) → get_or bytes i 0 < 256)
+    → 2 * length bytes < length l → IsOk r → OnOk r (o ≡ encode_lower bytes)
+    → Stored (hex_line bytes) l (set (o ++ drop (2 * length bytes) l) (2 * length bytes) 10) (Some (2 * length bytes + 1))
 unfolding hex_line
-hex_stored bytes l out e h = ended (hex_text bytes) l (2 * length bytes) 10 e (sym (hex_length bytes)) (omega arith)
+hex_stored r bytes l o b h ok laid =
+    let n : ℕ = 2 * length bytes in
+    let size = hex_length bytes in
+    let digits : o ≡ hex_text bytes = ok_then r ok laid ∙ hex_is bytes (below_of 256 bytes b) in
+    let front : hex_text bytes ++ drop n l ≡ splice l 0 (hex_text bytes) =
+    ap (λ (k : ℕ). hex_text bytes ++ drop k l) (sym size) ∙ in_front l (hex_text bytes) in
+    let room : n < length (splice l 0 (hex_text bytes)) = rw (length_splice l 0 (hex_text bytes) (omega arith)) h in
+    let all : set (hex_text bytes ++ drop n l) n 10 ≡ splice l 0 (hex_line bytes) =
+    ap (λ (k : List ℕ). set k n 10) front ∙ set_one _ n 10 room
+    ∙ splice_splice l 0 (hex_text bytes) (10 ∷ []) n (omega arith) (omega arith) in
+    let long = hex_line_length bytes in
+    stored_whole (hex_line bytes) l _ _ (omega (arith, long)) (ap Some (sym long)) (rw digits all)
 
-pub part_length : (text : List ℕ) (start : ℕ) → length text ≡ 20 → length (take (20 - start) (drop start text)) ≡ 20 - start
-part_length text start h = length-take-le (20 - start) (drop start text) (omega (arith, length-drop start text))
-
-pub numbered : (l out text : List ℕ) (at n start : ℕ) → at + 21 ≤ length l → start ≤ 19 → length text ≡ 20 → drop start text ≡ decimal n
-    → out ≡ splice (set l at 32) (at + 1) (take (20 - start) (drop start text)) → Numbered l out at n (at + 21 - start)
+-- what a number adds to a line
+pub number_added : {E : Type 0} (r : Result (Unit {0}) E) (n : ℕ) (line a digits out : List ℕ) → n < 2 ^ 64
+    → a ≡ line ++ (32 ∷ []) → digits ≡ printed n → IsOk r → OnOk r (out ≡ a ++ digits) → out ≡ line ++ spaced n
 unfolding spaced
-numbered l out text at n start room g size d e =
-    let whole : take (20 - start) (drop start text) ≡ decimal n = take_all (20 - start) (drop start text) (omega (arith, length-drop start text)) ∙ d in
-    let len : length (decimal n) ≡ 20 - start = ap length (sym whole) ∙ part_length text start size in
-    record {
-      place = omega (arith, len);
-      most = omega arith;
-      list = e ∙ ap (splice (set l at 32) (at + 1)) whole ∙ ap (λ (o : List ℕ). splice o (at + 1) (decimal n)) (set_one l at 32 (omega arith))
-          ∙ splice_splice l at (32 ∷ []) (decimal n) (at + 1) refl (omega arith);
-    }
+number_added r n line a digits out h p q ok e =
+    let d = q ∙ decimal_is n h in
+    ok_then r ok e ∙ rw (p, d) (append_assoc line (32 ∷ []) (decimal n))
 
--- a number behind what is stored
-joined : (l o out xs : List ℕ) (at n r : ℕ) → o ≡ splice l 0 xs → at ≡ length xs → at ≤ length l → Numbered o out at n r
-    → (out ≡ splice l 0 (xs ++ spaced n)) × (r ≡ length (xs ++ spaced n))
-joined l o out xs at n r e p h s =
-    (s.list ∙ ap (λ (k : List ℕ). splice k at (spaced n)) e ∙ splice_splice l 0 xs (spaced n) at (omega arith) (omega arith), s.place ∙ simp (length-append, sym p) refl)
-
--- a refusal's line, stored piece by piece
-pub refusal_laid : (l a b c : List ℕ) (number need have p q r : ℕ) → 65 ≤ length l
-    → Numbered (set l 0 82) a 1 number p → Numbered a b p need q → Numbered b c q have r
-    → take (r + 1) (set c r 10) ≡ refusal_line number need have
+-- a refusal's line, piece by piece
+pub refusal_laid : (number need have : ℕ) (first a b c line : List ℕ) → first ≡ 82 ∷ []
+    → a ≡ first ++ spaced number → b ≡ a ++ spaced need → c ≡ b ++ spaced have → line ≡ c ++ (10 ∷ []) → line ≡ refusal_line number need have
 unfolding refusal_line
-refusal_laid l a b c number need have p q r h s t u =
-    let first = joined l (set l 0 82) a (82 ∷ []) 1 number p (set_one l 0 82 (omega arith)) refl (omega arith) s in
-    let second = joined l a b ((82 ∷ []) ++ spaced number) p need q first.0 first.1 (omega (arith, s.most)) t in
-    let third = joined l b c (((82 ∷ []) ++ spaced number) ++ spaced need) q have r second.0 second.1 (omega (arith, s.most, t.most)) u in
-    let room : r < length l = omega (arith, s.most, t.most, u.most) in
-    laid ((((82 ∷ []) ++ spaced number) ++ spaced need) ++ spaced have) l r 10 third.0 third.1 room ∙ simp append_assoc
+refusal_laid number need have first a b c line f p q r s = rw (s, r, q, p, f) (simp append_assoc)

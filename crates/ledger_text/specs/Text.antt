@@ -1,9 +1,9 @@
 -- The program's lines as lists of ASCII codes: a byte string in hexadecimal, and a refusal.
 -- Assumes nothing: these are definitions.
-use Rattle.std.specs.Prelude.{ℕ, zero, suc, ◌+◌, ◌/◌, ◌%◌, ◌≤◌, ◌≡◌, cond, List, [], ◌∷◌, ◌++◌, ltb, leb, length}
+use Rattle.std.specs.Prelude.{ℕ, zero, suc, ◌+◌, ◌/◌, ◌%◌, ◌≡◌, cond, List, [], ◌∷◌, ◌++◌, ltb, leb, length}
+use Rattle.std.specs.Prelude.{Option, Some, None}
 use Prim.Native.Char.{code}
 use Prim.Native.String.{String, [] as []ˢ, ◌∷◌ as ◌∷ˢ◌}
-use Rattle.format.specs.Digits.{splice}
 use Rattle.format.specs.Syntax.{got}
 use Rattle.format.specs.Calls.{left}
 
@@ -42,14 +42,7 @@ spaced n = ascii " " ++ decimal n
 unfoldable pub refusal_line : ℕ → ℕ → ℕ → List ℕ
 refusal_line number need have = ascii "R" ++ spaced number ++ spaced need ++ spaced have ++ ascii "\n"
 
--- A line stored at the start of a buffer that has room for it, and its length; in a shorter buffer nothing is stored,
--- and the length is 0.
-pub record Stored (line before after : List ℕ) (r : ℕ) : Type 0 where
-  pub size : r ≡ cond (leb (length line) (length before)) (length line) 0
+-- A line stored at the start of a buffer that has room for it, and its length; in a shorter buffer nothing is stored.
+pub record Stored (line before after : List ℕ) (r : Option ℕ) : Type 0 where
+  pub size : r ≡ cond (leb (length line) (length before)) (Some (length line)) None
   pub bytes : after ≡ left before (got line [])
-
--- a space and a number's digits, stored from a place on, and the place behind them: 21 bytes on at most
-pub record Numbered (l out : List ℕ) (at n r : ℕ) : Type 0 where
-  pub place : r ≡ at + length (spaced n)
-  pub most : r ≤ at + 21
-  pub list : out ≡ splice l at (spaced n)

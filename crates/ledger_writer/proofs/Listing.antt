@@ -1,14 +1,15 @@
 -- The entries of a body, one after another, as the loop over them writes them.
 -- Assumes nothing.
 use Prim.Native.Nat.{ℕ, suc, ◌+◌, ◌-◌, ◌*◌, ◌%◌, ◌≤◌, ◌<◌}
-use mathlib.Core.Path.{◌≡◌, refl, sym, ap, ◌∙◌, subst}
+use mathlib.Core.Path.{◌≡◌, refl, sym, ap, ◌∙◌}
 use mathlib.Core.Bool.{Bool, true, false, cond}
 use mathlib.Core.List.{List, [], ◌∷◌, ◌++◌, append_assoc, append-nil}
 use native.Mathlib.Omega.{arith}
 use lib.Dec.{eqb}
 use lib.ListN.{length, drop, length-append}
 use Rattle.format.specs.Digits.{digits, bits_of, splice}
-use Rattle.format.specs.Syntax.{Syntax, end, Field, Edition, got}
+use Rattle.format.specs.Syntax.{Syntax, end, Field, got}
+use Rattle.format.specs.declared.Edition.{Edition}
 use Rattle.format.specs.Tables.{position, fragment, beamhopping, position3}
 use Rattle.format.specs.Body.{read_body}
 use Rattle.format.specs.Ledger.{ledger}
@@ -22,12 +23,10 @@ use Rattle.format.proofs.WalkLaws as walk-laws
 use Rattle.format.proofs.WalkLaws.{ahead, ahead_none, ahead_more, turn_on, turn_no, turn_end}
 use Rattle.bits.proofs.Splices.{splice_splice, splice_front, splice_nil}
 use Rattle.runs.specs.Stored.{stored}
-use Rattle.write_runs.specs.declared.Step.{Step}
-use Rattle.write_runs.specs.declared.Step.TheVariants.{Refused}
 use Rattle.runs.proofs.Stores.{digits_fit}
 use Rattle.write_runs.specs.Went.{outside, Went, Stopped, Placed}
 use Rattle.write_runs.proofs.WentLaws.{pushes_got}
-use Rattle.ledger_writer.specs.Listed.{entry_of, least_of, entries_in, entries_at, Wrote, Faulty, Listed}
+use Rattle.ledger_writer.specs.Listed.{entry_of, least_of, entries_in, entries_at, Wrote, Faulty}
 
 -- ---- the tables that have entries
 
@@ -131,7 +130,7 @@ module _ {ed : Edition} {body out₀ out : List ℕ} {id start place at there co
   pub stop : {f : Refusal} → Stopped body (outside ed) (entry_of id) at f → least_of id ≤ n - at → Faulty body id start f
   stop {f} w h = record {
     reads = st.walked ∙ ap (λ (k : ℕ). ahead st.es (entries_in body id k at)) (left_turns h)
-        ∙ ap (ahead st.es) (turn_no (λ p us. us) (least_of id) (entry_of id) body (n - start - (count + 1)) at f.number f.need f.have h w.reads);
+        ∙ ap (ahead st.es) (turn_no (λ p us. us) (least_of id) (entry_of id) body (n - start - (count + 1)) at f.fault f.need f.have h w.reads);
   }
 
   -- no entry is left, and the count is put in front
@@ -152,6 +151,3 @@ module _ {ed : Edition} {body out₀ out : List ℕ} {id start place at there co
             ∙ splice_front out₀ d (ledgers ed st.es) place (place + 2) (omega arith) (omega arith);
         behind = omega (arith, p.behind, p.within);
       }
-
-pub listed_no : {ed : Edition} {body out out' : List ℕ} {id start place : ℕ} {f : Refusal} {r : Step} → r ≡ Refused f → Faulty body id start f → Listed ed body id start place out out' r
-listed_no {ed} {body} {out} {out'} {id} {start} {place} q x = subst (λ (r : Step). Listed ed body id start place out out' r) (sym q) (record { to = x })

@@ -1,24 +1,28 @@
 -- The content of a ledger under each table id, and the whole ledger.
 -- Assumes nothing.
 use Prim.Native.Nat.{ℕ, zero, suc, ◌+◌, ◌-◌, ◌%◌, ◌≤◌, ◌<◌}
-use mathlib.Core.Path.{◌≡◌, refl, sym, ap, ◌∙◌, subst}
+use mathlib.Core.Path.{◌≡◌, refl, sym, ap, ◌∙◌}
 use mathlib.Core.List.{List, [], ◌∷◌, ◌++◌, append_assoc}
 use native.Mathlib.Nat.{div-one, mod-eq_of_lt}
 use native.Mathlib.Omega.{arith}
+use Rattle.std.proofs.Common.{Result, Ok, Err}
 use lib.Dec.{leb}
 use lib.ListN.{length, drop, length-append}
 use borrow.Author.Tests.{le-leb, lt-leb, leb-true}
 use borrow.Rule.Slice.PartMut.{mid_of, put_mid, mid_len}
 use Rattle.format.specs.Digits.{digits, bits_of, splice}
 use Rattle.format.specs.Refusals.{refuse}
-use Rattle.format.specs.Syntax.{Syntax, end, Field, Edition, Parse, got, refused, and_then}
+use Rattle.format.specs.Syntax.{Syntax, end, Field, Parse, got, refused, and_then}
+use Rattle.format.specs.declared.Edition.{Edition}
 use Rattle.format.specs.Tables.{association, header}
 use Rattle.format.specs.Ledger.{ledger}
-use Rattle.format.specs.Whole.{many, opaque, layout, Table, one, list, as_it_is, read_as, body_read_as, body_read, content_of, version, edition_for, ledger_of}
-use Rattle.format.specs.Calls.{answer, left, filed, write_answer, write_left}
-use Rattle.format.specs.declared.Answer as answers
-use Rattle.format.specs.declared.Answer.TheVariants as says
+use Rattle.format.specs.Whole.{many, opaque, layout, Table, one, list, as_it_is, read_as, body_read_as, body_read, content_of, version, ledger_of}
+use Rattle.format.specs.Calls.{answer, left, filed, done, write_answer, write_left}
+use Rattle.format.specs.declared.Edition.TheVariants.{First, Second}
+use Rattle.format.specs.declared.Output.{Output}
 use Rattle.format.specs.declared.Refusal.{Refusal}
+use Rattle.format.specs.declared.Fault.{Fault}
+use Rattle.format.specs.declared.Fault.TheVariants.{BodyTooLong, BufferTooShort}
 use Rattle.format.proofs.DigitLaws.{length_digits}
 use Rattle.format.proofs.ParseLaws.{cond_got, got_not_refused}
 use Rattle.format.proofs.FineTables.{fine_header, least_header}
@@ -27,15 +31,11 @@ use Rattle.format.proofs.WalkLaws as walk-laws
 use Rattle.format.proofs.TableLaws.{read_all}
 use Rattle.bits.proofs.Splices.{splice_splice, part_splice}
 use Rattle.runs.specs.Stored.{stored}
-use Rattle.write_runs.specs.Steps.{refusal_in}
-use Rattle.write_runs.specs.declared.Step.{Step}
-use Rattle.write_runs.specs.declared.Step.TheVariants.{Done, Refused}
+use Rattle.runs.specs.declared.Step.{Step}
 use Rattle.runs.proofs.Stores.{stored_fits}
 use Rattle.write_runs.specs.Went.{outside, Went, Ran}
 use Rattle.ledger_writer.specs.Listed.{entry_of, least_of, listing, Listed}
-use Rattle.ledger_writer.specs.Written.{Versioned, Filled, ContentIn, Content, size_in, size_answer, size_refusal}
-use Rattle.ledger_writer.specs.declared.LedgerSize as sizes
-use Rattle.ledger_writer.specs.declared.LedgerSize.TheVariants as sized
+use Rattle.ledger_writer.specs.Written.{Filled, Content, size_in, size_answer}
 use Rattle.ledger_writer.proofs.Listing.{went_got}
 
 -- ---- the content, by table id
@@ -54,9 +54,9 @@ unfolding read_as content_of
 as_is {ed} {id} {body} {out} h b = record { t = as_it_is body; reads = rw (layout_opaque id h); size = refl; bytes = λ r. b ∙ stored_fits out 0 body (omega arith); small = omega arith }
 
 -- id 2: one set of fields
-pub once : {ed : Edition} {id : ℕ} {body out out' : List ℕ} {r : Step} → id ≡ 2 → Ran body (outside ed) association 0 0 out (λ _. end) out' r → Content ed body id out out' r
+pub once : {ed : Edition} {id : ℕ} {body out out' : List ℕ} {r : Result (Step ℕ) Refusal} → id ≡ 2 → Ran body (outside ed) association 0 0 out (λ _. end) out' r → Content ed body id out out' r
 unfolding read_as content_of
-once {body = body} {r = Done p a v} q x =
+once {body = body} {r = Ok v} q x =
     let w = x.to in
     rw q (record {
       to = record {
@@ -67,13 +67,13 @@ once {body = body} {r = Done p a v} q x =
         small = omega (arith, w.slack, w.within);
       };
     })
-once {r = Refused f} q x = rw q (record { to = record { reads = ap (λ (p : Parse (List Field)). and_then p (λ ts rest. got (one ts) [])) x.to.reads } })
+once {r = Err f} q x = rw q (record { to = record { reads = ap (λ (p : Parse (List Field)). and_then p (λ ts rest. got (one ts) [])) x.to.reads } })
 
 -- ids 0, 1, 3 and 4: a head, and entries behind it
 module _ {ed : Edition} {id : ℕ} {body : List ℕ} {head : Syntax} (is : layout id ≡ many head (least_of id) (entry_of id)) where
-  pub listed : {out out₁ out₂ : List ℕ} {a p : ℕ} {r : Step} → Went body (outside ed) head 0 0 out end a p out₁ → Listed ed body id a p out₁ out₂ r → Content ed body id out out₂ r
+  pub listed : {out out₁ out₂ : List ℕ} {a p : ℕ} {r : Result (Step ℕ) Refusal} → Went body (outside ed) head 0 0 out end a p out₁ → Listed ed body id a p out₁ out₂ r → Content ed body id out out₂ r
   unfolding read_as content_of
-  listed {out} {out₁} {p = p} {r = Done p₁ a₁ v} w x =
+  listed {out} {out₁} {p = p} {r = Ok v} w x =
       let y = x.to in
       let ll = length-append (ledger ed w.ts) (listing ed y.es) in
       let z = w.size in
@@ -88,12 +88,11 @@ module _ {ed : Edition} {id : ℕ} {body : List ℕ} {head : Syntax} (is : layou
           small = y.behind;
         };
       }
-  listed {r = Refused f} w x = record { to = record { reads = rw (is, went_got w, x.to.reads) } }
+  listed {r = Err f} w x = record { to = record { reads = rw (is, went_got w, x.to.reads) } }
 
-  pub unheaded : {out out₂ : List ℕ} {f : Refusal} {r : Step} → r ≡ Refused f → Ran body (outside ed) head 0 0 out (λ _. end) out₂ r → Content ed body id out out₂ r
+  pub unheaded : {out out₂ : List ℕ} {f : Refusal} → Ran body (outside ed) head 0 0 out (λ _. end) out₂ (Err f) → Content ed body id out out₂ (Err f)
   unfolding read_as
-  unheaded {r = Done p a v} q x = let o : ◌≡◌ {A = ℕ} 0 1 = cc in absurd (omega arith)
-  unheaded {r = Refused g} q x = record { to = record { reads = rw (is, x.to.reads) } }
+  unheaded x = record { to = record { reads = rw (is, x.to.reads) } }
 
 pub layout_list : (id : ℕ) → id < 4 → (id ≡ 2 → ⊥) → layout id ≡ many end (least_of id) (entry_of id)
 layout_list zero h n = refl
@@ -114,7 +113,7 @@ header_ends {body = body} {a = a} w =
 -- ---- the whole ledger
 
 module _ (ed : Edition) (id : ℕ) (body : List ℕ) where
-  filed_over : 4096 < length body → filed ed id body ≡ refused 21 (length body) 4096
+  filed_over : 4096 < length body → filed ed id body ≡ refused BodyTooLong (length body) 4096
   unfolding filed body_read_as
   filed_over h = rw (lt-leb (length body) 4096 h)
 
@@ -122,7 +121,7 @@ module _ (ed : Edition) (id : ℕ) (body : List ℕ) where
   unfolding filed body_read_as
   filed_got t h e = rw (le-leb (length body) 4096 h, e)
 
-  filed_refused : (x y z : ℕ) → length body ≤ 4096 → read_as (layout id) body ≡ refused x y z → filed ed id body ≡ refused x y z
+  filed_refused : (x : Fault) (y z : ℕ) → length body ≤ 4096 → read_as (layout id) body ≡ refused x y z → filed ed id body ≡ refused x y z
   unfolding filed body_read_as
   filed_refused x y z h e = rw (le-leb (length body) 4096 h, e)
 
@@ -132,19 +131,15 @@ length_ledger_of ed id t = length-append (digits 256 2 (length (content_of ed t)
 
 -- ---- how long it is
 
-pub size_over : (ed : Edition) (id : ℕ) (body : List ℕ) → 4096 < length body → sized.Refused (refuse 21 (length body) 4096) ≡ size_answer ed id body
+pub size_over : (ed : Edition) (id : ℕ) (body : List ℕ) → 4096 < length body → Err (refuse BodyTooLong (length body) 4096) ≡ size_answer ed id body
 unfolding size_answer size_in
 size_over ed id body h = rw (filed_over ed id body h)
 
-pub size_no : {ed : Edition} {id : ℕ} {body part part' : List ℕ} {f g : Refusal} {r : Step} → length body ≤ 4096 → r ≡ Refused f → Content ed body id part part' r → g ≡ refusal_in r → sized.Refused g ≡ size_answer ed id body
-unfolding size_answer size_in refusal_in
-size_no {r = Done p a v} h q x e = let o : ◌≡◌ {A = ℕ} 0 1 = cc in absurd (omega arith)
-size_no {ed} {id} {body} {r = Refused f} h q x e = rw (filed_refused ed id body f.number f.need f.have h x.to.reads, e)
+pub size_no : {ed : Edition} {id : ℕ} {body part part' : List ℕ} {f : Refusal} → length body ≤ 4096 → Content ed body id part part' (Err f) → Err f ≡ size_answer ed id body
+unfolding size_answer size_in
+size_no {ed} {id} {body} {f = f} h x = rw (filed_refused ed id body f.fault f.need f.have h x.to.reads)
 
-pub content_done : {ed : Edition} {id a p v : ℕ} {body out out' : List ℕ} {r : Step} → r ≡ Done p a v → Content ed body id out out' r → Filled ed body id out p out'
-content_done {ed} {id} {body = body} {out} {out'} q x = subst (λ (r : Step). ContentIn ed body id out out' r) q x.to
-
-pub size_yes : {ed : Edition} {id p : ℕ} {body part part' : List ℕ} → length body ≤ 4096 → Filled ed body id part p part' → sized.Size (p + 4) ≡ size_answer ed id body
+pub size_yes : {ed : Edition} {id p : ℕ} {body part part' : List ℕ} → length body ≤ 4096 → Filled ed body id part p part' → Ok (p + 4) ≡ size_answer ed id body
 unfolding size_answer size_in
 size_yes {ed} {id} {p} {body} h x =
     let n : length (ledger_of ed id x.t) ≡ p + 4 = length_ledger_of ed id x.t ∙ ap (λ (k : ℕ). k + 4) (sym x.size) in
@@ -152,17 +147,17 @@ size_yes {ed} {id} {p} {body} h x =
 
 -- ---- what the writer answers and leaves
 
-abbrev Says : Edition → ℕ → List ℕ → List ℕ → answers.Answer → List ℕ → Type 0
+abbrev Says : Edition → ℕ → List ℕ → List ℕ → Result Output Refusal → List ℕ → Type 0
 Says ed id body out w out' = (w ≡ write_answer ed id body (length out)) × (out' ≡ write_left ed id body out)
 
 -- a body that is refused
-pub says_no : (ed : Edition) (id : ℕ) (body out : List ℕ) {f g : Refusal} {s : sizes.LedgerSize} → s ≡ sized.Refused f → s ≡ size_answer ed id body → g ≡ size_refusal s → Says ed id body out (says.Refused g) out
-unfolding write_answer write_left size_answer size_refusal answer left size_in
-says_no ed id body out {f} q e r = rw (r, q) (go (filed ed id body) (sym q ∙ e))
+pub says_no : (ed : Edition) (id : ℕ) (body out : List ℕ) {f : Refusal} → Err f ≡ size_answer ed id body → Says ed id body out (Err f) out
+unfolding write_answer write_left size_answer answer left size_in
+says_no ed id body out {f} e = go (filed ed id body) e
   where
-    go : (p : Parse (List ℕ)) → sized.Refused f ≡ size_in p → (says.Refused f ≡ answer id (length out) p) × (out ≡ left out p)
-    go (got xs rest) e = let o : ◌≡◌ {A = ℕ} 0 1 = cc in absurd (omega arith)
-    go (refused x y z) e = let g : f ≡ refuse x y z = cc in (ap says.Refused g, refl)
+    go : (p : Parse (List ℕ)) → Err f ≡ size_in p → (Err f ≡ answer id (length out) p) × (out ≡ left out p)
+    go (got xs rest) e = absurd (cc)
+    go (refused x y z) e = let g : f ≡ refuse x y z = cc in (ap Err g, refl)
 
 -- what is known of a body that has a ledger
 pub record Known (ed : Edition) (id : ℕ) (body : List ℕ) (need : ℕ) : Type 0 where
@@ -173,12 +168,12 @@ pub record Known (ed : Edition) (id : ℕ) (body : List ℕ) (need : ℕ) : Type
   pub size : length (ledger_of ed id t) ≡ need
   pub content : need ≡ length (content_of ed t) + 4
 
-pub known : {ed : Edition} {id : ℕ} {body : List ℕ} {need : ℕ} {s : sizes.LedgerSize} → s ≡ sized.Size need → s ≡ size_answer ed id body → Known ed id body need
+pub known : {ed : Edition} {id : ℕ} {body : List ℕ} {need : ℕ} → Ok need ≡ size_answer ed id body → Known ed id body need
 unfolding size_answer filed body_read_as size_in
-known {ed} {id} {body} {need} q e = go (body_read id body) refl (sym q ∙ e)
+known {ed} {id} {body} {need} e = go (body_read id body) refl e
   where
-    go : (p : Parse Table) → body_read id body ≡ p → sized.Size need ≡ size_in (and_then p (λ t rest. got (ledger_of ed id t) [])) → Known ed id body need
-    go (refused x y z) b e = let o : ◌≡◌ {A = ℕ} 0 1 = cc in absurd (omega arith)
+    go : (p : Parse Table) → body_read id body ≡ p → Ok need ≡ size_in (and_then p (λ t rest. got (ledger_of ed id t) [])) → Known ed id body need
+    go (refused x y z) b e = absurd (cc)
     go (got t rest) b e =
         let c = cond_got (leb (length body) 4096) _ _ _ _ b in
         let h : length body ≤ 4096 = leb-true (length body) 4096 c.0 in
@@ -187,19 +182,19 @@ known {ed} {id} {body} {need} q e = go (body_read id body) refl (sym q ∙ e)
         record { t = t; short = h; reads = r; file = filed_got ed id body t h r; size = sym n; content = n ∙ length_ledger_of ed id t }
 
 -- no room for it
-pub says_short : {ed : Edition} {id need : ℕ} {body out : List ℕ} → Known ed id body need → length out < need → Says ed id body out (says.Refused (refuse 22 need (length out))) out
+pub says_short : {ed : Edition} {id need : ℕ} {body out : List ℕ} → Known ed id body need → length out < need → Says ed id body out (Err (refuse BufferTooShort need (length out))) out
 unfolding write_answer write_left answer left
 says_short {need = need} {out = out} k h = (rw (k.file, k.size, lt-leb need (length out) h), rw (k.file, k.size, lt-leb need (length out) h))
 
 -- what a second going through the body leaves is the same content
-again : (ed : Edition) (body out out' : List ℕ) (id : ℕ) (t : Table) (r : Step) → read_as (layout id) body ≡ got t [] → Content ed body id out out' r → length (content_of ed t) ≤ length out
+again : (ed : Edition) (body out out' : List ℕ) (id : ℕ) (t : Table) (r : Result (Step ℕ) Refusal) → read_as (layout id) body ≡ got t [] → Content ed body id out out' r → length (content_of ed t) ≤ length out
     → out' ≡ splice out 0 (content_of ed t)
-again ed body out out' id t (Done p a v) e x h =
+again ed body out out' id t (Ok v) e x h =
     let y = x.to in
     let q : got y.t [] ≡ got t [] = sym y.reads ∙ e in
     let z : y.t ≡ t = cc in
     y.bytes (omega (arith, y.size, ap (λ (g : Table). length (content_of ed g)) z)) ∙ ap (λ (g : Table). splice out 0 (content_of ed g)) z
-again ed body out out' id t (Refused f) e x h = absurd (got_not_refused (sym e ∙ x.to.reads))
+again ed body out out' id t (Err f) e x h = absurd (got_not_refused (sym e ∙ x.to.reads))
 
 byte : (v : ℕ) → v < 256 → digits 256 1 v ≡ v ∷ []
 unfolding digits
@@ -216,22 +211,27 @@ front v id n out m₁ m₂ m₃ hv h l e₁ e₂ e₃ =
     let l₂ = length-append d (v ∷ []) in
     e₃ ∙ rw (byte id h, f₂) (splice_splice out 0 (d ++ (v ∷ [])) (id ∷ []) 3 (omega arith) (omega arith)) ∙ ap (splice out 0) (append_assoc d (v ∷ []) (id ∷ []))
 
+version_small : (ed : Edition) → version ed < 256
+version_small First = omega arith
+version_small Second = omega arith
+
 -- room for it: the front, and the content behind it
-pub says_yes : {v id need : ℕ} {body m₁ m₂ m₃ part : List ℕ} {r : Step} (out : List ℕ) → v < 256 → id < 256 → Versioned v → Known (edition_for v) id body need → need ≤ length out
+pub says_yes : {ed : Edition} {v id need : ℕ} {body m₁ m₂ m₃ part : List ℕ} {r : Result (Step ℕ) Refusal} (out : List ℕ) → v ≡ version ed → id < 256 → Known ed id body need → need ≤ length out
     → m₁ ≡ splice out 0 (digits 256 2 (need - 2)) → m₂ ≡ splice m₁ 2 (digits 256 1 v) → m₃ ≡ splice m₂ 3 (digits 256 1 id) → length m₃ ≡ length out
-    → Content (edition_for v) body id (mid_of 4 (length m₃ - 4) m₃) part r → Says (edition_for v) id body out (says.Done id need) (put_mid 4 (length m₃ - 4) m₃ part)
+    → Content ed body id (mid_of 4 (length m₃ - 4) m₃) part r → Says ed id body out (done id need) (put_mid 4 (length m₃ - 4) m₃ part)
 unfolding write_answer write_left answer left ledger_of
-says_yes {v} {id} {need} {body} {m₁} {m₂} {m₃} {part} {r} out hv hi vs k l e₁ e₂ e₃ long y =
-    let c : List ℕ = content_of (edition_for v) k.t in
+says_yes {ed} {v} {id} {need} {body} {m₁} {m₂} {m₃} {part} {r} out vs hi k l e₁ e₂ e₃ long y =
+    let hv : v < 256 = omega (arith, vs, version_small ed) in
+    let c : List ℕ = content_of ed k.t in
     let z = k.content in
     let d : List ℕ = digits 256 2 (need - 2) in
     let head : List ℕ = d ++ (v ∷ id ∷ []) in
     let lh : length head ≡ 4 = length-append d (v ∷ id ∷ []) ∙ omega (arith, length_digits 256 2 (need - 2)) in
     let mid : length (mid_of 4 (length m₃ - 4) m₃) ≡ length m₃ - 4 = mid_len 4 (length m₃) m₃ (omega arith) in
     let n : need - 2 ≡ length c + 2 = omega arith in
-    let all : put_mid 4 (length m₃ - 4) m₃ part ≡ splice out 0 (ledger_of (edition_for v) id k.t) =
-    part_splice m₃ part c 4 (omega arith) (again (edition_for v) body (mid_of 4 (length m₃ - 4) m₃) part id k.t r k.reads y (omega arith))
+    let all : put_mid 4 (length m₃ - 4) m₃ part ≡ splice out 0 (ledger_of ed id k.t) =
+    part_splice m₃ part c 4 (omega arith) (again ed body (mid_of 4 (length m₃ - 4) m₃) part id k.t r k.reads y (omega arith))
     ∙ ap (λ (m : List ℕ). splice m 4 c) (front v id (need - 2) out m₁ m₂ m₃ hv hi (omega arith) e₁ e₂ e₃)
     ∙ splice_splice out 0 head c 4 (omega arith) (omega arith)
-    ∙ ap (splice out 0) (append_assoc d (v ∷ id ∷ []) c ∙ ap (λ (x : ℕ). digits 256 2 x ++ (v ∷ id ∷ c)) n ∙ ap (λ (x : ℕ). digits 256 2 (length c + 2) ++ (x ∷ id ∷ c)) (sym vs)) in
+    ∙ ap (splice out 0) (append_assoc d (v ∷ id ∷ []) c ∙ ap (λ (x : ℕ). digits 256 2 x ++ (v ∷ id ∷ c)) n ∙ ap (λ (x : ℕ). digits 256 2 (length c + 2) ++ (x ∷ id ∷ c)) vs) in
     (rw (k.file, k.size, le-leb need (length out) l), rw (k.file, k.size, le-leb need (length out) l) all)

@@ -2,94 +2,62 @@
 #![tactic(auto)]
 
 use clocks::Stamp;
-use ephemeris::{
-    CovarianceData, EphemerisData, EphemerisDataAnswer, MaybeCovariance, MaybeEphemerisAccel,
-    ephemeris_data_at,
-};
-use list_text::{
-    Path, Text, absent, element, field_8, field_32, flag, list, stamp, under, value_line,
-};
-use metadata::{MaybeMetadata, MaybeUsableTime, PositionV3Metadata};
+use ephemeris::{CovarianceData, EphemerisAccel, EphemerisData, ephemeris_data_at};
+use list_text::Listing;
+use metadata::{PositionV3Metadata, UsableTime};
 use parts::Part;
 use position_v3::{PositionV3Header, PositionV3Satellite};
+use std::io;
+use std::io::Write;
 
-pub fn show_header(out: &mut Text, used: usize, at: Path, h: PositionV3Header) -> usize {
+pub fn show_header<W: Write>(out: &mut Listing<'_, W>, h: PositionV3Header) -> io::Result<()> {
     let date = Stamp {
         year: h.creation_date_year,
         reserved: h.creation_date_reserved_zero_future_use,
         day: h.creation_date_day,
         fraction: h.creation_date_day_fraction,
     };
-    let used = field_8(out, used, at, b"oem_version_major", h.oem_version_major);
-    let used = field_8(out, used, at, b"oem_version_minor", h.oem_version_minor);
-    show_date(out, used, at, b"creation_date_", date)
+    out.field("oem_version_major", h.oem_version_major)?;
+    out.field("oem_version_minor", h.oem_version_minor)?;
+    show_date(out, "creation_date_", date)
 }
 
-// A satellite; the elements of its covariance are handed over beside it.
-pub fn show(
-    out: &mut Text,
-    used: usize,
-    at: Path,
+// A stamp whose reserved bits have its stem too.
+fn show_date<W: Write>(out: &mut Listing<'_, W>, stem: &str, date: Stamp) -> io::Result<()> {
+    out.stamp(stem, stem, date)
+}
+
+pub fn show<W: Write>(
+    out: &mut Listing<'_, W>,
     body: &[u8],
     s: PositionV3Satellite,
-    elements: [u32; 21],
-) -> usize {
-    let metadata = s.metadata;
-    let part = s.ephemeris_data;
-    let covariance = s.covariance;
+) -> io::Result<()> {
+    show_front(out, s)?;
+    match s.metadata {
+        Some(metadata) => show_metadata(&mut out.part("metadata")?, metadata)?,
+        None => out.absent("metadata")?,
+    }
     let accel = s.ephemeris_accel_flag;
-    let used = show_front(out, used, at, s);
-    let used = show_metadata(out, used, at, metadata);
-    let used = show_ephemerides(out, used, under(at, b"ephemeris_data"), body, part, accel);
-    show_covariance(out, used, at, covariance, elements)
+    let part = s.ephemeris_data;
+    show_ephemerides(&mut out.part("ephemeris_data")?, body, part, accel)?;
+    match s.covariance {
+        Some(covariance) => show_covariance(&mut out.part("covariance")?, covariance),
+        None => out.absent("covariance"),
+    }
 }
 
 // The id and the flags.
-fn show_front(out: &mut Text, used: usize, at: Path, s: PositionV3Satellite) -> usize {
-    let metadata = s.metadata;
-    let kept = s.reserved_zero_future_use;
-    let start = s.usable_start_time_flag;
-    let stop = s.usable_stop_time_flag;
-    let accel = s.ephemeris_accel_flag;
-    let used = field_32(out, used, at, b"satellite_id", s.satellite_id);
-    let used = field_8(out, used, at, b"reserved_zero_future_use", kept);
-    let used = flag(out, used, at, b"metadata_flag", is_there(metadata));
-    let used = flag(out, used, at, b"usable_start_time_flag", start);
-    let used = flag(out, used, at, b"usable_stop_time_flag", stop);
-    let used = flag(out, used, at, b"ephemeris_accel_flag", accel);
-    flag(out, used, at, b"covariance_flag", s.covariance_flag)
+fn show_front<W: Write>(out: &mut Listing<'_, W>, s: PositionV3Satellite) -> io::Result<()> {
+    out.field("satellite_id", s.satellite_id)?;
+    out.field("reserved_zero_future_use", s.reserved_zero_future_use)?;
+    out.flag("metadata_flag", s.metadata.is_some())?;
+    out.flag("usable_start_time_flag", s.usable_start_time_flag)?;
+    out.flag("usable_stop_time_flag", s.usable_stop_time_flag)?;
+    out.flag("ephemeris_accel_flag", s.ephemeris_accel_flag)?;
+    out.flag("covariance_flag", s.covariance_flag)
 }
 
-fn is_there(metadata: MaybeMetadata) -> bool {
-    match metadata {
-        MaybeMetadata::Some(_) => true,
-        MaybeMetadata::None => false,
-    }
-}
-
-fn show_metadata(out: &mut Text, used: usize, at: Path, metadata: MaybeMetadata) -> usize {
-    match metadata {
-        MaybeMetadata::Some(m) => show_found_metadata(out, used, under(at, b"metadata"), m),
-        MaybeMetadata::None => absent(out, used, at, b"metadata"),
-    }
-}
-
-fn show_found_metadata(out: &mut Text, used: usize, at: Path, m: PositionV3Metadata) -> usize {
-    let kind = m.interpolation_type;
-    let degree = m.interpolation_degree;
-    let kept = m.reserved_zero_future_use;
-    let from = m.usable_start_time;
-    let to = m.usable_stop_time;
-    let used = show_total_times(out, used, at, m);
-    let used = field_8(out, used, at, b"reserved_zero_future_use", kept);
-    let used = flag(out, used, at, b"interpolation_flag", m.interpolation_flag);
-    let used = field_8(out, used, at, b"interpolation_type", kind.to_u8());
-    let used = field_8(out, used, at, b"interpolation_degree", degree);
-    let used = show_usable(out, used, at, b"usable_start_time", from);
-    show_usable(out, used, at, b"usable_stop_time", to)
-}
-
-fn show_total_times(out: &mut Text, used: usize, at: Path, m: PositionV3Metadata) -> usize {
+fn show_metadata<W: Write>(out: &mut Listing<'_, W>, m: PositionV3Metadata) -> io::Result<()> {
     let first = Stamp {
         year: m.total_start_time_year,
         reserved: m.total_start_time_reserved_zero_future_use,
@@ -102,114 +70,85 @@ fn show_total_times(out: &mut Text, used: usize, at: Path, m: PositionV3Metadata
         day: m.total_stop_time_day,
         fraction: m.total_stop_time_day_fraction,
     };
-    let used = show_date(out, used, at, b"total_start_time_", first);
-    show_date(out, used, at, b"total_stop_time_", last)
+    show_date(out, "total_start_time_", first)?;
+    show_date(out, "total_stop_time_", last)?;
+    out.field("reserved_zero_future_use", m.reserved_zero_future_use)?;
+    out.flag("interpolation_flag", m.interpolation_flag)?;
+    out.field("interpolation_type", m.interpolation_type.to_u8())?;
+    out.field("interpolation_degree", m.interpolation_degree)?;
+    show_usable(out, "usable_start_time", m.usable_start_time)?;
+    show_usable(out, "usable_stop_time", m.usable_stop_time)
 }
 
-// A stamp whose reserved bits have its stem too.
-fn show_date(out: &mut Text, used: usize, at: Path, stem: &[u8], date: Stamp) -> usize {
-    stamp(out, used, at, stem, stem, date)
+fn show_usable<W: Write>(
+    out: &mut Listing<'_, W>,
+    name: &str,
+    time: Option<UsableTime>,
+) -> io::Result<()> {
+    let Some(time) = time else {
+        return out.absent(name);
+    };
+    let stamp = Stamp {
+        year: time.year,
+        reserved: time.reserved_zero_future_use,
+        day: time.day,
+        fraction: time.day_fraction,
+    };
+    out.part(name)?.stamp("", "", stamp)
 }
 
-fn show_usable(out: &mut Text, used: usize, at: Path, name: &[u8], time: MaybeUsableTime) -> usize {
-    match time {
-        MaybeUsableTime::Some(t) => {
-            let time = Stamp {
-                year: t.year,
-                reserved: t.reserved_zero_future_use,
-                day: t.day,
-                fraction: t.day_fraction,
-            };
-            stamp(out, used, under(at, name), b"", b"", time)
-        }
-        MaybeUsableTime::None => absent(out, used, at, name),
-    }
-}
-
-fn show_ephemerides(
-    out: &mut Text,
-    used: usize,
-    at: Path,
+fn show_ephemerides<W: Write>(
+    out: &mut Listing<'_, W>,
     body: &[u8],
     part: Part,
     accel: bool,
-) -> usize {
-    let mut used = list(out, used, at, part);
+) -> io::Result<()> {
+    out.list(part)?;
     for i in 0..part.count {
-        let found = ephemeris_data_at(body, part, accel, i);
-        if let EphemerisDataAnswer::Data(e) = found {
-            used = show_ephemeris(out, used, element(at, i), e);
+        if let Some(e) = ephemeris_data_at(body, part, accel, i) {
+            show_ephemeris(&mut out.element(i)?, e)?;
         }
     }
-    used
+    Ok(())
 }
 
-fn show_ephemeris(out: &mut Text, used: usize, at: Path, e: EphemerisData) -> usize {
+fn show_ephemeris<W: Write>(out: &mut Listing<'_, W>, e: EphemerisData) -> io::Result<()> {
     let epoch = Stamp {
         year: e.epoch_year,
         reserved: e.reserved_zero_future_use,
         day: e.epoch_day,
         fraction: e.epoch_day_fraction,
     };
-    let acceleration = e.acceleration;
-    let used = stamp(out, used, at, b"epoch_", b"", epoch);
-    let used = field_32(out, used, at, b"ephemeris_x", e.ephemeris_x);
-    let used = field_32(out, used, at, b"ephemeris_y", e.ephemeris_y);
-    let used = field_32(out, used, at, b"ephemeris_z", e.ephemeris_z);
-    let used = field_32(out, used, at, b"ephemeris_x_dot", e.ephemeris_x_dot);
-    let used = field_32(out, used, at, b"ephemeris_y_dot", e.ephemeris_y_dot);
-    let used = field_32(out, used, at, b"ephemeris_z_dot", e.ephemeris_z_dot);
-    show_acceleration(out, used, at, acceleration)
-}
-
-fn show_acceleration(
-    out: &mut Text,
-    used: usize,
-    at: Path,
-    acceleration: MaybeEphemerisAccel,
-) -> usize {
-    match acceleration {
-        MaybeEphemerisAccel::Some(a) => {
-            let at = under(at, b"acceleration");
-            let used = field_32(out, used, at, b"ephemeris_x_ddot", a.ephemeris_x_ddot);
-            let used = field_32(out, used, at, b"ephemeris_y_ddot", a.ephemeris_y_ddot);
-            field_32(out, used, at, b"ephemeris_z_ddot", a.ephemeris_z_ddot)
-        }
-        MaybeEphemerisAccel::None => absent(out, used, at, b"acceleration"),
+    out.stamp("epoch_", "", epoch)?;
+    out.field("ephemeris_x", e.ephemeris_x)?;
+    out.field("ephemeris_y", e.ephemeris_y)?;
+    out.field("ephemeris_z", e.ephemeris_z)?;
+    out.field("ephemeris_x_dot", e.ephemeris_x_dot)?;
+    out.field("ephemeris_y_dot", e.ephemeris_y_dot)?;
+    out.field("ephemeris_z_dot", e.ephemeris_z_dot)?;
+    match e.acceleration {
+        Some(acceleration) => show_acceleration(&mut out.part("acceleration")?, acceleration),
+        None => out.absent("acceleration"),
     }
 }
 
-fn show_covariance(
-    out: &mut Text,
-    used: usize,
-    at: Path,
-    covariance: MaybeCovariance,
-    elements: [u32; 21],
-) -> usize {
-    match covariance {
-        MaybeCovariance::Some(c) => {
-            let at = under(at, b"covariance");
-            let used = show_covariance_epoch(out, used, at, c);
-            show_elements(out, used, under(at, b"covariance_elements"), elements)
-        }
-        MaybeCovariance::None => absent(out, used, at, b"covariance"),
-    }
+fn show_acceleration<W: Write>(out: &mut Listing<'_, W>, a: EphemerisAccel) -> io::Result<()> {
+    out.field("ephemeris_x_ddot", a.ephemeris_x_ddot)?;
+    out.field("ephemeris_y_ddot", a.ephemeris_y_ddot)?;
+    out.field("ephemeris_z_ddot", a.ephemeris_z_ddot)
 }
 
-fn show_covariance_epoch(out: &mut Text, used: usize, at: Path, c: CovarianceData) -> usize {
+fn show_covariance<W: Write>(out: &mut Listing<'_, W>, c: CovarianceData) -> io::Result<()> {
     let epoch = Stamp {
         year: c.covariance_epoch_year,
         reserved: c.covariance_epoch_reserved_zero_future_use,
         day: c.covariance_epoch_day,
         fraction: c.covariance_epoch_day_fraction,
     };
-    show_date(out, used, at, b"covariance_epoch_", epoch)
-}
-
-fn show_elements(out: &mut Text, used: usize, at: Path, elements: [u32; 21]) -> usize {
-    let mut used = used;
-    for i in 0..21 {
-        used = value_line(out, used, element(at, i), elements[i]);
+    show_date(out, "covariance_epoch_", epoch)?;
+    let mut list = out.part("covariance_elements")?;
+    for (i, element) in c.covariance_elements.iter().enumerate() {
+        list.element(i)?.value(element)?;
     }
-    used
+    Ok(())
 }

@@ -2,17 +2,14 @@
 #![tactic(auto)]
 
 use clocks::Clock;
-use list_text::{
-    Path, Text, bytes_field, bytes_of, clock, field_8, field_16, field_32, list, place,
-    slots_field, under,
-};
+use list_text::{Hexadecimal, Listing, Slots, bytes_of};
 use parts::Part;
 use plan::BeamhoppingPlan;
 use plan_modes::BeamhoppingMode;
+use std::io;
+use std::io::Write;
 
-pub fn show(out: &mut Text, used: usize, at: Path, body: &[u8], p: BeamhoppingPlan) -> usize {
-    let kind = p.time_plan_mode;
-    let mode = p.mode;
+pub fn show<W: Write>(out: &mut Listing<'_, W>, body: &[u8], p: BeamhoppingPlan) -> io::Result<()> {
     let start = Clock {
         base: p.time_of_application_base,
         reserved: p.time_of_application_reserved_zero_future_use,
@@ -23,82 +20,21 @@ pub fn show(out: &mut Text, used: usize, at: Path, body: &[u8], p: BeamhoppingPl
         reserved: p.cycle_duration_reserved_zero_future_use,
         ext: p.cycle_duration_ext,
     };
+    let id = p.beamhopping_time_plan_id;
+    out.field("beamhopping_time_plan_id", id)?;
+    out.field("reserved_zero_future_use_4", p.reserved_zero_future_use_4)?;
+    out.field("plan_length", p.plan_length)?;
     let kept = p.reserved_zero_future_use_mode;
-    let used = field_32(
-        out,
-        used,
-        at,
-        b"beamhopping_time_plan_id",
-        p.beamhopping_time_plan_id,
-    );
-    let used = field_8(
-        out,
-        used,
-        at,
-        b"reserved_zero_future_use_4",
-        p.reserved_zero_future_use_4,
-    );
-    let used = field_16(out, used, at, b"plan_length", p.plan_length);
-    let used = field_8(out, used, at, b"reserved_zero_future_use_mode", kept);
-    let used = field_8(out, used, at, b"time_plan_mode", kind.to_u8());
-    let used = show_clock(out, used, at, b"time_of_application_", start);
-    let used = show_clock(out, used, at, b"cycle_duration_", cycle);
-    show_mode(out, used, under(at, b"mode"), body, mode)
+    out.field("reserved_zero_future_use_mode", kept)?;
+    out.field("time_plan_mode", p.time_plan_mode.to_u8())?;
+    show_clock(out, "time_of_application_", start)?;
+    show_clock(out, "cycle_duration_", cycle)?;
+    show_mode(&mut out.part("mode")?, body, p.mode)
 }
 
 // A clock whose reserved bits have its stem too.
-fn show_clock(out: &mut Text, used: usize, at: Path, stem: &[u8], time: Clock) -> usize {
-    clock(out, used, at, stem, stem, time)
-}
-
-// What a mode has of its own. Of the three functions for modes 0 to 2, two write nothing.
-fn show_mode(out: &mut Text, used: usize, at: Path, body: &[u8], mode: BeamhoppingMode) -> usize {
-    if let BeamhoppingMode::Reserved(part) = mode {
-        let at = under(at, b"Reserved");
-        let used = list(out, used, at, part);
-        return bytes_field(out, used, at, bytes_of(body, part));
-    }
-    let used = show_dwell(out, used, at, mode);
-    let used = show_bitmap(out, used, at, body, mode);
-    show_grid(out, used, at, mode)
-}
-
-fn show_dwell(out: &mut Text, used: usize, at: Path, mode: BeamhoppingMode) -> usize {
-    let BeamhoppingMode::Mode0 {
-        dwell_duration_base: base,
-        dwell_duration_ext: ext,
-        on_time_base,
-        on_time_ext,
-        dwell_duration_reserved_zero_future_use: reserved,
-        on_time_reserved_zero_future_use: on_reserved,
-    } = mode
-    else {
-        return used;
-    };
-    let dwell = clock_of(base, reserved, ext);
-    let on = clock_of(on_time_base, on_reserved, on_time_ext);
-    let used = show_clock(out, used, at, b"dwell_duration_", dwell);
-    show_clock(out, used, at, b"on_time_", on)
-}
-
-fn show_bitmap(out: &mut Text, used: usize, at: Path, body: &[u8], mode: BeamhoppingMode) -> usize {
-    let BeamhoppingMode::Mode1 {
-        bit_map_size,
-        current_slot,
-        slot_transmission_on: part,
-        slots_on,
-        reserved_zero_future_use_size: kept_size,
-        reserved_zero_future_use_slot: kept_slot,
-    } = mode
-    else {
-        return used;
-    };
-    let used = field_8(out, used, at, b"reserved_zero_future_use_size", kept_size);
-    let used = field_16(out, used, at, b"bit_map_size", bit_map_size);
-    let used = field_8(out, used, at, b"reserved_zero_future_use_slot", kept_slot);
-    let used = field_16(out, used, at, b"current_slot", current_slot);
-    let used = show_slots(out, used, under(at, b"slot_transmission_on"), body, part);
-    field_32(out, used, at, b"slots_on", slots_on)
+fn show_clock<W: Write>(out: &mut Listing<'_, W>, stem: &str, time: Clock) -> io::Result<()> {
+    out.clock(stem, stem, time)
 }
 
 fn clock_of(base: u64, reserved: u8, ext: u16) -> Clock {
@@ -109,7 +45,72 @@ fn clock_of(base: u64, reserved: u8, ext: u16) -> Clock {
     }
 }
 
-fn show_grid(out: &mut Text, used: usize, at: Path, mode: BeamhoppingMode) -> usize {
+// What a mode has of its own. Of the functions for modes 0 to 2, two write nothing.
+fn show_mode<W: Write>(
+    out: &mut Listing<'_, W>,
+    body: &[u8],
+    mode: BeamhoppingMode,
+) -> io::Result<()> {
+    if let BeamhoppingMode::Reserved(part) = mode {
+        let mut out = out.part("Reserved")?;
+        out.list(part)?;
+        return out.value(Hexadecimal(bytes_of(body, part)));
+    }
+    show_dwell(out, mode)?;
+    show_bitmap(out, body, mode)?;
+    show_grid(out, mode)
+}
+
+fn show_dwell<W: Write>(out: &mut Listing<'_, W>, mode: BeamhoppingMode) -> io::Result<()> {
+    let BeamhoppingMode::Mode0 {
+        dwell_duration_base: base,
+        dwell_duration_ext: ext,
+        on_time_base,
+        on_time_ext,
+        dwell_duration_reserved_zero_future_use: reserved,
+        on_time_reserved_zero_future_use: on_reserved,
+    } = mode
+    else {
+        return Ok(());
+    };
+    let dwell = clock_of(base, reserved, ext);
+    let on = clock_of(on_time_base, on_reserved, on_time_ext);
+    show_clock(out, "dwell_duration_", dwell)?;
+    show_clock(out, "on_time_", on)
+}
+
+fn show_bitmap<W: Write>(
+    out: &mut Listing<'_, W>,
+    body: &[u8],
+    mode: BeamhoppingMode,
+) -> io::Result<()> {
+    let BeamhoppingMode::Mode1 {
+        bit_map_size,
+        current_slot,
+        slot_transmission_on: part,
+        slots_on,
+        reserved_zero_future_use_size: kept_size,
+        reserved_zero_future_use_slot: kept_slot,
+    } = mode
+    else {
+        return Ok(());
+    };
+    out.field("reserved_zero_future_use_size", kept_size)?;
+    out.field("bit_map_size", bit_map_size)?;
+    out.field("reserved_zero_future_use_slot", kept_slot)?;
+    out.field("current_slot", current_slot)?;
+    show_slots(&mut out.part("slot_transmission_on")?, body, part)?;
+    out.field("slots_on", slots_on)
+}
+
+fn show_slots<W: Write>(out: &mut Listing<'_, W>, body: &[u8], part: Part) -> io::Result<()> {
+    let bytes = bytes_of(body, part);
+    let count = part.count;
+    out.place(part)?;
+    out.value(Slots { bytes, count })
+}
+
+fn show_grid<W: Write>(out: &mut Listing<'_, W>, mode: BeamhoppingMode) -> io::Result<()> {
     let BeamhoppingMode::Mode2 {
         grid_size_base,
         grid_size_ext,
@@ -125,19 +126,14 @@ fn show_grid(out: &mut Text, used: usize, at: Path, mode: BeamhoppingMode) -> us
         sleep_duration_reserved_zero_future_use: sleep_kept,
     } = mode
     else {
-        return used;
+        return Ok(());
     };
     let grid = clock_of(grid_size_base, grid_kept, grid_size_ext);
     let revisit = clock_of(revisit_duration_base, revisit_kept, revisit_duration_ext);
     let time = clock_of(sleep_time_base, time_kept, sleep_time_ext);
     let duration = clock_of(sleep_duration_base, sleep_kept, sleep_duration_ext);
-    let used = show_clock(out, used, at, b"grid_size_", grid);
-    let used = show_clock(out, used, at, b"revisit_duration_", revisit);
-    let used = show_clock(out, used, at, b"sleep_time_", time);
-    show_clock(out, used, at, b"sleep_duration_", duration)
-}
-
-fn show_slots(out: &mut Text, used: usize, at: Path, body: &[u8], part: Part) -> usize {
-    let used = place(out, used, at, part);
-    slots_field(out, used, at, bytes_of(body, part), part.count)
+    show_clock(out, "grid_size_", grid)?;
+    show_clock(out, "revisit_duration_", revisit)?;
+    show_clock(out, "sleep_time_", time)?;
+    show_clock(out, "sleep_duration_", duration)
 }

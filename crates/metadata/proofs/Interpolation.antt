@@ -14,7 +14,8 @@ number_back v = go (eqb m 0) refl (eqb m 1) refl (eqb m 2) refl (eqb m 3) refl (
     m : ℕ
     m = v % 8
 
-    go : (a : Bool) → eqb m 0 ≡ a → (b : Bool) → eqb m 1 ≡ b → (c : Bool) → eqb m 2 ≡ c → (d : Bool) → eqb m 3 ≡ d → (e : Bool) → eqb m 4 ≡ e
+    go : (a : Bool) → eqb m 0 ≡ a → (b : Bool) → eqb m 1 ≡ b → (c : Bool) → eqb m 2 ≡ c → (d : Bool) → eqb m 3 ≡ d
+        → (e : Bool) → eqb m 4 ≡ e
         → interpolation_number (interpolation v) ≡ m
     go true p b q c r d s e t = rw p (sym (eqb-true m 0 p))
     go false p true q c r d s e t = rw (p, q) (sym (eqb-true m 1 q))

@@ -1,26 +1,20 @@
 -- Table id 4: metadata and usable times by the names of their fields, and at a place.
 -- Assumes nothing: these are definitions.
-use Rattle.std.specs.Prelude.{ℕ, ◌+◌, ◌%◌, cond, List, eqb}
+use Rattle.std.specs.Prelude.{ℕ, ◌+◌, ◌%◌, cond, List, eqb, Option, Some, None, Result, Err}
 use Prim.Native.String.{◌++◌}
 use Rattle.format.specs.Digits.{value_at}
-use Rattle.format.specs.Refusals.{refuse}
+use Rattle.format.specs.Refusals.{fault_number}
 use Rattle.format.specs.Syntax.{Name, Syntax, Field, end, when}
 use Rattle.format.specs.Tables.{usable, metadata}
 use Rattle.format.specs.ByName.{the}
-use Rattle.format.specs.At.{read}
+use Rattle.format.specs.At.{read, found_at}
+use Rattle.format.specs.declared.Fault.{Fault}
 use Rattle.format.specs.declared.Refusal.{Refusal}
+use Rattle.format.specs.declared.Found.{Found}
 use Rattle.metadata.specs.declared.InterpolationType.{InterpolationType}
 use Rattle.metadata.specs.declared.InterpolationType.TheVariants.{Reserved0, Linear, Lagrange, Reserved3, Hermite, ReservedOther}
 use Rattle.metadata.specs.declared.UsableTime.{UsableTime}
-use Rattle.metadata.specs.declared.MaybeUsableTime.{MaybeUsableTime}
-use Rattle.metadata.specs.declared.MaybeUsableTime.TheVariants as time
 use Rattle.metadata.specs.declared.PositionV3Metadata.{PositionV3Metadata}
-use Rattle.metadata.specs.declared.MaybeMetadata.{MaybeMetadata}
-use Rattle.metadata.specs.declared.MaybeMetadata.TheVariants.{Some, None}
-use Rattle.metadata.specs.declared.UsableAnswer.{UsableAnswer}
-use Rattle.metadata.specs.declared.UsableAnswer.TheVariants as ua
-use Rattle.metadata.specs.declared.MetadataAnswer.{MetadataAnswer}
-use Rattle.metadata.specs.declared.MetadataAnswer.TheVariants.{Read, Refused}
 
 -- the type that a number's low three bits code, and the number that codes a type
 unfoldable pub interpolation : ℕ → InterpolationType
@@ -39,15 +33,6 @@ interpolation_number Reserved3 = 3
 interpolation_number Hermite = 4
 interpolation_number (ReservedOther v) = v
 
--- the refusal in an answer; zeros where there is none
-unfoldable pub usable_refusal : UsableAnswer → Refusal
-usable_refusal (ua.Read t n) = refuse 0 0 0
-usable_refusal (ua.Refused f) = f
-
-unfoldable pub metadata_refusal : MetadataAnswer → Refusal
-metadata_refusal (Read m n) = refuse 0 0 0
-metadata_refusal (Refused f) = f
-
 -- ---- by name
 
 -- the usable time of a name, there if its flag is 1
@@ -60,8 +45,8 @@ usable_by t ts =
       reserved_zero_future_use = the (t ++ "_reserved_zero_future_use") ts;
     }
 
-abbrev pub maybe_usable : Name → ℕ → List Field → MaybeUsableTime
-maybe_usable t flag ts = cond (eqb flag 1) (time.Some (usable_by t ts)) time.None
+abbrev pub maybe_usable : Name → ℕ → List Field → Option UsableTime
+maybe_usable t flag ts = cond (eqb flag 1) (Some (usable_by t ts)) None
 
 -- the metadata, with the usable times whose flags are 1
 unfoldable pub metadata_by : ℕ → ℕ → List Field → PositionV3Metadata
@@ -84,7 +69,7 @@ metadata_by start stop ts =
     }
 
 -- the metadata, there if its own flag is 1
-abbrev pub maybe_metadata : ℕ → ℕ → ℕ → List Field → MaybeMetadata
+abbrev pub maybe_metadata : ℕ → ℕ → ℕ → List Field → Option PositionV3Metadata
 maybe_metadata flag start stop ts = cond (eqb flag 1) (Some (metadata_by start stop ts)) None
 
 -- ---- read alone
@@ -93,17 +78,18 @@ maybe_metadata flag start stop ts = cond (eqb flag 1) (Some (metadata_by start s
 abbrev pub optional : ℕ → ℕ → ℕ → Syntax → Syntax
 optional flag start stop s = when (eqb flag 1) (metadata start stop s) s
 
--- which usable time a refusal's number stands for: 17 for the start, 18 for the stop
-abbrev pub time_name : ℕ → Name
-time_name number = cond (eqb number 17) "usable_start_time" "usable_stop_time"
+-- which usable time a refusal's fault stands for: that of number 17 for the start, 18 for the stop
+abbrev pub time_name : Fault → Name
+time_name fault = cond (eqb (fault_number fault) 17) "usable_start_time" "usable_stop_time"
 
-unfoldable pub usable_at : List ℕ → ℕ → ℕ → ℕ → UsableAnswer
-usable_at b number flag p =
-    read b 0 (usable number (time_name number) flag end) p (λ ts q. ua.Read (maybe_usable (time_name number) flag ts) q) ua.Refused
+unfoldable pub usable_at : List ℕ → Fault → ℕ → ℕ → Result (Found (Option UsableTime)) Refusal
+usable_at b fault flag p =
+    read b 0 (usable fault (time_name fault) flag end) p
+    (λ ts q. found_at (maybe_usable (time_name fault) flag ts) q) Err
 
-unfoldable pub metadata_at : List ℕ → ℕ → ℕ → ℕ → ℕ → MetadataAnswer
+unfoldable pub metadata_at : List ℕ → ℕ → ℕ → ℕ → ℕ → Result (Found (Option PositionV3Metadata)) Refusal
 metadata_at b flag start stop p =
-    read b 0 (optional flag start stop end) p (λ ts q. Read (maybe_metadata flag start stop ts) q) Refused
+    read b 0 (optional flag start stop end) p (λ ts q. found_at (maybe_metadata flag start stop ts) q) Err
 
 -- ---- what the bits at a place spell
 
@@ -116,7 +102,7 @@ usable_of b p =
       reserved_zero_future_use = value_at b (p + 8) 7;
     }
 
-abbrev pub metadata_of : List ℕ → ℕ → MaybeUsableTime → MaybeUsableTime → PositionV3Metadata
+abbrev pub metadata_of : List ℕ → ℕ → Option UsableTime → Option UsableTime → PositionV3Metadata
 metadata_of b p start stop =
     record {
       total_start_time_year = value_at b p 8;

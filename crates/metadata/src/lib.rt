@@ -2,12 +2,14 @@
 #![tactic(auto)]
 
 ghost use Rattle.std.specs.Prelude.{◌≡◌};
+ghost use Rattle.std.specs.Int.{from_bool};
 ghost use Rattle.bits.specs.Read.{Place, Room};
-ghost use Rattle.metadata.specs.Metadata.{interpolation, interpolation_number, usable_of, usable_at, usable_refusal, metadata_of, metadata_at, metadata_refusal};
+ghost use Rattle.metadata.specs.Metadata.{interpolation, interpolation_number, usable_of, usable_at, metadata_of, metadata_at};
 
+use bit_reader::enough;
 use bits::value_at;
 use clocks::stamp_at;
-use format::Refusal;
+use format::{Fault, Found, Refusal};
 
 #[derive(Clone, Copy)]
 pub enum InterpolationType {
@@ -28,12 +30,6 @@ pub struct UsableTime {
 }
 
 #[derive(Clone, Copy)]
-pub enum MaybeUsableTime {
-    Some(UsableTime),
-    None,
-}
-
-#[derive(Clone, Copy)]
 pub struct PositionV3Metadata {
     pub total_start_time_year: u8,
     pub total_start_time_day: u16,
@@ -44,62 +40,37 @@ pub struct PositionV3Metadata {
     pub interpolation_flag: bool,
     pub interpolation_type: InterpolationType,
     pub interpolation_degree: u8,
-    pub usable_start_time: MaybeUsableTime,
-    pub usable_stop_time: MaybeUsableTime,
+    pub usable_start_time: Option<UsableTime>,
+    pub usable_stop_time: Option<UsableTime>,
     pub total_start_time_reserved_zero_future_use: u8,
     pub total_stop_time_reserved_zero_future_use: u8,
     pub reserved_zero_future_use: u8,
 }
 
-#[derive(Clone, Copy)]
-pub enum MaybeMetadata {
-    Some(PositionV3Metadata),
-    None,
-}
-
-// What reading a usable time finds: the time, if its flag is set, and the place behind it; or why it is refused.
-#[derive(Clone, Copy)]
-pub enum UsableAnswer {
-    Read { time: MaybeUsableTime, next: u16 },
-    Refused(Refusal),
-}
-
-// The same for the whole metadata.
-#[derive(Clone, Copy)]
-pub enum MetadataAnswer {
-    Read { metadata: MaybeMetadata, next: u16 },
-    Refused(Refusal),
-}
-
-impl InterpolationType {
+impl From<u8> for InterpolationType {
     // The type that the low three bits of a number code.
-    pub fn from_u8(v: u8) -> Self
-        ensures { result ≡ interpolation v }
-    {
-        let m = v % 8;
-        if m == 0 {
-            return InterpolationType::Reserved0;
-        }
-        if m == 1 {
-            return InterpolationType::Linear;
-        }
-        if m == 2 {
-            return InterpolationType::Lagrange;
-        }
-        if m == 3 {
-            return InterpolationType::Reserved3;
-        }
-        if m == 4 {
-            return InterpolationType::Hermite;
-        }
-        InterpolationType::ReservedOther(m)
-    }
+    ghost from_gives = { λ v t. t ≡ interpolation v };
 
+    #[tactic(auto, unfolding(crate::specs::Metadata::interpolation))]
+    fn from(v: u8) -> Self {
+        match v % 8 {
+            0 => InterpolationType::Reserved0,
+            1 => InterpolationType::Linear,
+            2 => InterpolationType::Lagrange,
+            3 => InterpolationType::Reserved3,
+            4 => InterpolationType::Hermite,
+            other => InterpolationType::ReservedOther(other),
+        }
+    }
+}
+
+impl From<InterpolationType> for u8 {
     // The number that codes a type.
-    pub fn to_u8(self) -> u8
-        ensures { result ≡ interpolation_number self }
-    {
-        match self {
+    ghost from_gives = { λ t v. v ≡ interpolation_number t };
+
+    #[tactic(auto, unfolding(crate::specs::Metadata::interpolation_number))]
+    fn from(kind: InterpolationType) -> u8 {
+        match kind {
             InterpolationType::Reserved0 => 0,
             InterpolationType::Linear => 1,
             InterpolationType::Lagrange => 2,
@@ -110,33 +81,18 @@ impl InterpolationType {
     }
 }
 
-// The refusal in an answer; zeros where the answer is no refusal.
-fn usable_refusal(r: UsableAnswer) -> Refusal
-    ensures { result ≡ usable_refusal r }
-{
-    match r {
-        UsableAnswer::Read { time: _, next: _ } => Refusal {
-            number: 0,
-            need: 0,
-            have: 0,
-        },
-        UsableAnswer::Refused(f) => f,
+// The two conversions under the ported crate's names.
+impl InterpolationType {
+    pub fn from_u8(v: u8) -> Self
+        ensures { result ≡ interpolation v }
+    {
+        InterpolationType::from(v)
     }
-}
 
-pub fn metadata_refusal(r: MetadataAnswer) -> Refusal
-    ensures { result ≡ metadata_refusal r }
-{
-    match r {
-        MetadataAnswer::Read {
-            metadata: _,
-            next: _,
-        } => Refusal {
-            number: 0,
-            need: 0,
-            have: 0,
-        },
-        MetadataAnswer::Refused(f) => f,
+    pub fn to_u8(self) -> u8
+        ensures { result ≡ interpolation_number self }
+    {
+        u8::from(self)
     }
 }
 
@@ -154,37 +110,35 @@ fn usable_at(s: &[u8], at: u16) -> UsableTime
     }
 }
 
-// A usable time, there only if its flag is 1; refused under a number of the caller's where it passes the data.
-fn read_usable(s: &[u8], at: u16, number: u8, flag: u8) -> UsableAnswer
+// A usable time, there only if its flag is set; refused with a fault of the caller's where it passes the data.
+fn read_usable(
+    s: &[u8],
+    at: u16,
+    fault: Fault,
+    flag: bool,
+) -> Result<Found<Option<UsableTime>>, Refusal>
     requires { Place s.now at }
-    ensures { result ≡ usable_at s.now number flag at }
+    ensures { result ≡ usable_at s.now fault (from_bool flag) at }
 {
-    if flag != 1 {
-        return UsableAnswer::Read {
-            time: MaybeUsableTime::None,
+    if !flag {
+        return Ok(Found {
+            value: None,
             next: at,
-        };
-    }
-    let have = 8 * s.len() - at as usize;
-    if have < 56 {
-        return UsableAnswer::Refused(Refusal {
-            number,
-            need: 56,
-            have,
         });
     }
-    UsableAnswer::Read {
-        time: MaybeUsableTime::Some(usable_at(s, at)),
+    enough(s, at, fault, 56)?;
+    Ok(Found {
+        value: Some(usable_at(s, at)),
         next: at + 56,
-    }
+    })
 }
 
 // The metadata at a place where its fixed fields are all there, around usable times read before.
 fn metadata_at(
     s: &[u8],
     at: u16,
-    start: MaybeUsableTime,
-    stop: MaybeUsableTime,
+    start: Option<UsableTime>,
+    stop: Option<UsableTime>,
 ) -> PositionV3Metadata
     requires { Room s.now at 120 }
     ensures { result ≡ metadata_of s.now at start stop }
@@ -199,7 +153,7 @@ fn metadata_at(
         total_stop_time_day: last.day,
         total_stop_time_day_fraction: last.fraction,
         interpolation_flag: value_at(s, at + 113, 1) == 1,
-        interpolation_type: InterpolationType::from_u8(value_at(s, at + 114, 3) as u8),
+        interpolation_type: InterpolationType::from(value_at(s, at + 114, 3) as u8),
         interpolation_degree: value_at(s, at + 117, 3) as u8,
         usable_start_time: start,
         usable_stop_time: stop,
@@ -209,36 +163,29 @@ fn metadata_at(
     }
 }
 
-// The metadata, there only if its flag is 1; a usable time within it, if its own flag is 1 too.
-pub fn read_metadata(s: &[u8], at: u16, meta: u8, start: u8, stop: u8) -> MetadataAnswer
+// The metadata, there only if its flag is set; a usable time within it, if its own flag is set too.
+pub fn read_metadata(
+    s: &[u8],
+    at: u16,
+    meta: bool,
+    start: bool,
+    stop: bool,
+) -> Result<Found<Option<PositionV3Metadata>>, Refusal>
     requires { Place s.now at }
-    ensures { result ≡ metadata_at s.now meta start stop at }
+    ensures { result ≡ metadata_at s.now (from_bool meta) (from_bool start) (from_bool stop) at }
 {
-    let none = meta != 1;
+    let none = !meta;
     if none {
-        return MetadataAnswer::Read {
-            metadata: MaybeMetadata::None,
+        return Ok(Found {
+            value: None,
             next: at,
-        };
-    }
-    let have = 8 * s.len() - at as usize;
-    if have < 120 {
-        return MetadataAnswer::Refused(Refusal {
-            number: 16,
-            need: 120,
-            have,
         });
     }
-    let r = read_usable(s, at + 120, 17, start);
-    let UsableAnswer::Read { time: from, next } = r else {
-        return MetadataAnswer::Refused(usable_refusal(r));
-    };
-    let r = read_usable(s, next, 18, stop);
-    let UsableAnswer::Read { time: to, next } = r else {
-        return MetadataAnswer::Refused(usable_refusal(r));
-    };
-    MetadataAnswer::Read {
-        metadata: MaybeMetadata::Some(metadata_at(s, at, from, to)),
-        next,
-    }
+    enough(s, at, Fault::MetadataCut, 120)?;
+    let from = read_usable(s, at + 120, Fault::UsableStartCut, start)?;
+    let to = read_usable(s, from.next, Fault::UsableStopCut, stop)?;
+    Ok(Found {
+        value: Some(metadata_at(s, at, from.value, to.value)),
+        next: to.next,
+    })
 }

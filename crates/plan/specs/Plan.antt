@@ -1,25 +1,20 @@
 -- Table id 3: a plan from its fields, each by its name.
 -- Assumes nothing: these are definitions.
-use Rattle.std.specs.Prelude.{ℕ, ◌-◌, cond, List, leb}
+use Rattle.std.specs.Prelude.{ℕ, ◌-◌, cond, List, leb, Result, Err}
 use Rattle.format.specs.Refusals.{refuse}
 use Rattle.format.specs.Syntax.{Field}
 use Rattle.format.specs.Tables.{beamhopping, hopping}
 use Rattle.format.specs.ByName.{the}
-use Rattle.format.specs.At.{read}
+use Rattle.format.specs.At.{read, found_at}
 use Rattle.format.specs.declared.Refusal.{Refusal}
+use Rattle.format.specs.declared.Found.{Found}
+use Rattle.format.specs.declared.Fault.TheVariants.{PlanOverrun}
 use Rattle.clocks.specs.Clocks.{clock_by}
 use Rattle.clocks.specs.declared.Clock.{Clock}
 use Rattle.plan_modes.specs.Modes.{plan_mode, mode_by}
 use Rattle.plan_modes.specs.declared.BeamhoppingMode.{BeamhoppingMode}
 use Rattle.plan.specs.declared.BeamhoppingPlan.{BeamhoppingPlan}
 use Rattle.plan.specs.declared.PlanHead.{PlanHead}
-use Rattle.plan.specs.declared.BeamhoppingAnswer.{BeamhoppingAnswer}
-use Rattle.plan.specs.declared.BeamhoppingAnswer.TheVariants.{Entry, Refused}
-
--- the refusal in an answer; zeros where there is none
-unfoldable pub plan_refusal : BeamhoppingAnswer → Refusal
-plan_refusal (Entry p n) = refuse 0 0 0
-plan_refusal (Refused f) = f
 
 -- ---- a plan from its fields
 
@@ -54,18 +49,24 @@ plan_from h p ts =
 unfoldable pub plan_of : ℕ → List Field → BeamhoppingPlan
 plan_of p ts =
     plan_from
-    (record { id = the "beamhopping_time_plan_id" ts; reserved = the "reserved_zero_future_use_4" ts; plan_length = the "plan_length" ts })
+    (record {
+      id = the "beamhopping_time_plan_id" ts;
+      reserved =
+          the "reserved_zero_future_use_4" ts;
+      plan_length = the "plan_length" ts;
+    })
     p ts
 
--- a plan whose fields end at n: refused by 14 where that is past the plan's end e; else reading goes on at e, or at the data's end
-unfoldable pub plan_closed : BeamhoppingPlan → ℕ → ℕ → ℕ → BeamhoppingAnswer
-plan_closed p n e all = cond (leb n e) (Entry p (cond (leb e all) e all)) (Refused (refuse 14 (n - e) 0))
+-- a plan whose fields end at n: refused by 14 where that is past the plan's end e; else reading goes on at e, or at the
+-- data's end
+unfoldable pub plan_closed : BeamhoppingPlan → ℕ → ℕ → ℕ → Result (Found BeamhoppingPlan) Refusal
+plan_closed p n e all = cond (leb n e) (found_at p (cond (leb e all) e all)) (Err (refuse PlanOverrun (n - e) 0))
 
 -- ---- what is at a place
 
 -- a plan, and behind its head
-unfoldable pub plan_at : List ℕ → ℕ → BeamhoppingAnswer
-plan_at b p = read b 0 beamhopping p (λ ts q. Entry (plan_of p ts) q) Refused
+unfoldable pub plan_at : List ℕ → ℕ → Result (Found BeamhoppingPlan) Refusal
+plan_at b p = read b 0 beamhopping p (λ ts q. found_at (plan_of p ts) q) Err
 
-unfoldable pub fields_at : List ℕ → ℕ → PlanHead → ℕ → BeamhoppingAnswer
-fields_at b e h p = read b e hopping p (λ ts q. Entry (plan_from h p ts) q) Refused
+unfoldable pub fields_at : List ℕ → ℕ → PlanHead → ℕ → Result (Found BeamhoppingPlan) Refusal
+fields_at b e h p = read b e hopping p (λ ts q. found_at (plan_from h p ts) q) Err

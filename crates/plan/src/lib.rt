@@ -3,12 +3,12 @@
 
 ghost use Rattle.std.specs.Prelude.{◌≡◌, ◌%◌};
 ghost use Rattle.bits.specs.Read.{Place};
-ghost use Rattle.plan.specs.Plan.{plan_refusal, plan_made, plan_closed, fields_at, plan_at};
+ghost use Rattle.plan.specs.Plan.{plan_made, plan_closed, fields_at, plan_at};
 
-use bits::{Bits, read_u, refusal_of};
-use clocks::{Clock, ClockAnswer, clock_refusal, read_clock};
-use format::Refusal;
-use plan_modes::{BeamhoppingMode, ModeAnswer, TimePlanMode, mode_refusal, read_mode};
+use bits::read_u;
+use clocks::{Clock, read_clock};
+use format::{Fault, Found, Refusal};
+use plan_modes::{BeamhoppingMode, TimePlanMode, read_mode};
 
 // A plan as the Rust has it, and its length as it was read.
 #[derive(Clone, Copy)]
@@ -35,27 +35,6 @@ pub struct PlanHead {
     pub plan_length: u16,
 }
 
-// A plan and the place at which the next one starts, or why there is none.
-#[derive(Clone, Copy)]
-pub enum BeamhoppingAnswer {
-    Entry { plan: BeamhoppingPlan, next: u16 },
-    Refused(Refusal),
-}
-
-// The refusal in an answer; zeros where the answer is a plan.
-pub fn plan_refusal(r: BeamhoppingAnswer) -> Refusal
-    ensures { result ≡ plan_refusal r }
-{
-    match r {
-        BeamhoppingAnswer::Entry { plan: _, next: _ } => Refusal {
-            number: 0,
-            need: 0,
-            have: 0,
-        },
-        BeamhoppingAnswer::Refused(f) => f,
-    }
-}
-
 // A plan made of its fields.
 fn plan_of(
     head: PlanHead,
@@ -69,7 +48,7 @@ fn plan_of(
 {
     BeamhoppingPlan {
         beamhopping_time_plan_id: head.id,
-        time_plan_mode: TimePlanMode::from_u8(kind),
+        time_plan_mode: TimePlanMode::from(kind),
         time_of_application_base: start.base,
         time_of_application_ext: start.ext,
         cycle_duration_base: cycle.base,
@@ -84,79 +63,72 @@ fn plan_of(
 }
 
 // The fields that plan_length counts, in a plan that ends at a place. The data's end alone limits them here.
-fn read_fields(s: &[u8], at: u16, end: u16, head: PlanHead) -> BeamhoppingAnswer
+fn read_fields(
+    s: &[u8],
+    at: u16,
+    end: u16,
+    head: PlanHead,
+) -> Result<Found<BeamhoppingPlan>, Refusal>
     requires place { Place s.now at }
     requires at_value { at % 8 ≡ 0 }
     ensures { result ≡ fields_at s.now end head at }
 {
-    let r = read_u(s, at, 6);
-    let Bits::Value { value: kept, next } = r else {
-        return BeamhoppingAnswer::Refused(refusal_of(r));
-    };
-    let r = read_u(s, next, 2);
-    let Bits::Value { value: kind, next } = r else {
-        return BeamhoppingAnswer::Refused(refusal_of(r));
-    };
-    let k = read_clock(s, next);
-    let ClockAnswer::Read { clock: start, next } = k else {
-        return BeamhoppingAnswer::Refused(clock_refusal(k));
-    };
-    let k = read_clock(s, next);
-    let ClockAnswer::Read { clock: cycle, next } = k else {
-        return BeamhoppingAnswer::Refused(clock_refusal(k));
-    };
-    let m = read_mode(s, next, end, kind);
-    let ModeAnswer::Mode { mode, next } = m else {
-        return BeamhoppingAnswer::Refused(mode_refusal(m));
-    };
-    let plan = plan_of(head, kept as u8, kind as u8, start, cycle, mode);
-    BeamhoppingAnswer::Entry { plan, next }
+    let kept = read_u(s, at, 6)?;
+    let kind = read_u(s, kept.next, 2)?;
+    let start = read_clock(s, kind.next)?;
+    let cycle = read_clock(s, start.next)?;
+    let mode = read_mode(s, cycle.next, end, kind.value)?;
+    let plan = plan_of(
+        head,
+        kept.value as u8,
+        kind.value as u8,
+        start.value,
+        cycle.value,
+        mode.value,
+    );
+    Ok(Found {
+        value: plan,
+        next: mode.next,
+    })
 }
 
-// A plan whose fields end at next. They must not pass its end, and the next plan starts there, or at the data's end where that comes first.
-fn closed(plan: BeamhoppingPlan, next: u16, end: u16, all: u16) -> BeamhoppingAnswer
-    ensures { result ≡ plan_closed plan next end all }
+// A plan and where its fields end. They must not pass its end, and the next plan starts there, or at the data's end
+// where that comes first.
+fn closed(
+    found: Found<BeamhoppingPlan>,
+    end: u16,
+    all: u16,
+) -> Result<Found<BeamhoppingPlan>, Refusal>
+    ensures { result ≡ plan_closed found.value found.next end all }
 {
-    if end < next {
-        return BeamhoppingAnswer::Refused(Refusal {
-            number: 14,
-            need: (next - end) as usize,
+    if end < found.next {
+        return Err(Refusal {
+            fault: Fault::PlanOverrun,
+            need: (found.next - end) as usize,
             have: 0,
         });
     }
-    if all < end {
-        return BeamhoppingAnswer::Entry { plan, next: all };
-    }
-    BeamhoppingAnswer::Entry { plan, next: end }
+    Ok(Found {
+        value: found.value,
+        next: end.min(all),
+    })
 }
 
-// The plan at a place.
-pub fn read_plan(s: &[u8], at: u16) -> BeamhoppingAnswer
+// The plan at a place, and the place at which the next one starts.
+pub fn read_plan(s: &[u8], at: u16) -> Result<Found<BeamhoppingPlan>, Refusal>
     requires place { Place s.now at }
     requires at_value { at % 8 ≡ 0 }
     ensures { result ≡ plan_at s.now at }
 {
-    let r = read_u(s, at, 32);
-    let Bits::Value { value: id, next } = r else {
-        return BeamhoppingAnswer::Refused(refusal_of(r));
-    };
-    let r = read_u(s, next, 4);
-    let Bits::Value { value: kept, next } = r else {
-        return BeamhoppingAnswer::Refused(refusal_of(r));
-    };
-    let r = read_u(s, next, 12);
-    let Bits::Value { value: bytes, next } = r else {
-        return BeamhoppingAnswer::Refused(refusal_of(r));
-    };
-    let end = (next as usize + 8 * (bytes as usize)) as u16;
+    let id = read_u(s, at, 32)?;
+    let kept = read_u(s, id.next, 4)?;
+    let bytes = read_u(s, kept.next, 12)?;
+    let end = (bytes.next as usize + 8 * bytes.value as usize) as u16;
     let head = PlanHead {
-        id: id as u32,
-        reserved: kept as u8,
-        plan_length: bytes as u16,
+        id: id.value as u32,
+        reserved: kept.value as u8,
+        plan_length: bytes.value as u16,
     };
-    let p = read_fields(s, next, end, head);
-    let BeamhoppingAnswer::Entry { plan, next } = p else {
-        return BeamhoppingAnswer::Refused(plan_refusal(p));
-    };
-    closed(plan, next, end, (8 * s.len()) as u16)
+    let found = read_fields(s, bytes.next, end, head)?;
+    closed(found, end, (8 * s.len()) as u16)
 }

@@ -1,4 +1,4 @@
+pub mod Reached
 pub mod Bitmap
 pub mod Choice
 pub mod Numbers
-pub mod Grid

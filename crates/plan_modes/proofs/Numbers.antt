@@ -23,6 +23,8 @@ number_back v = go0 (eqb (v % 4) 0) refl
     go1 true h = cc (eqb-true m 1 h)
     go1 false h = go2 (eqb m 2) refl
 
-    go0 : (t : Bool) → eqb m 0 ≡ t → plan_mode_number (cond t DwellOnTime (cond (eqb m 1) Bitmap (cond (eqb m 2) GridRevisitSleep (Reserved m)))) ≡ m
+    go0 : (t : Bool) → eqb m 0 ≡ t
+        → plan_mode_number (cond t DwellOnTime
+        (cond (eqb m 1) Bitmap (cond (eqb m 2) GridRevisitSleep (Reserved m)))) ≡ m
     go0 true h = cc (eqb-true m 0 h)
     go0 false h = go1 (eqb m 1) refl

@@ -1,25 +1,18 @@
 -- A plan's mode from its fields, each by its name.
 -- Assumes nothing: these are definitions.
-use Rattle.std.specs.Prelude.{ℕ, ◌/◌, ◌%◌, cond, List, eqb}
-use Rattle.format.specs.Refusals.{refuse}
+use Rattle.std.specs.Prelude.{ℕ, ◌/◌, ◌%◌, cond, List, eqb, Result, Err}
 use Rattle.format.specs.Syntax.{Field, raw}
 use Rattle.format.specs.Tables.{dwell, bitmap, grid, mode}
 use Rattle.format.specs.Body.{wholes}
 use Rattle.format.specs.ByName.{the, slots_on_of, from}
-use Rattle.format.specs.At.{read}
+use Rattle.format.specs.At.{read, found_at}
 use Rattle.format.specs.declared.Refusal.{Refusal}
+use Rattle.format.specs.declared.Found.{Found}
 use Rattle.plan_modes.specs.declared.TimePlanMode.{TimePlanMode}
 use Rattle.plan_modes.specs.declared.TimePlanMode.TheVariants.{DwellOnTime, Bitmap, GridRevisitSleep}
 use Rattle.plan_modes.specs.declared.TimePlanMode.TheVariants as kind
 use Rattle.plan_modes.specs.declared.BeamhoppingMode.{BeamhoppingMode}
 use Rattle.plan_modes.specs.declared.BeamhoppingMode.TheVariants.{Mode0, Mode1, Mode2, Reserved}
-use Rattle.plan_modes.specs.declared.ModeAnswer.{ModeAnswer}
-use Rattle.plan_modes.specs.declared.ModeAnswer.TheVariants.{Mode, Refused}
-
--- the refusal in an answer; zeros where there is none
-unfoldable pub mode_refusal : ModeAnswer → Refusal
-mode_refusal (Mode m n) = refuse 0 0 0
-mode_refusal (Refused f) = f
 
 -- the mode of a number, of which two bits count; and the number of a mode
 unfoldable pub plan_mode : ℕ → TimePlanMode
@@ -79,24 +72,31 @@ grid_by ts =
 
 -- the raw bytes' part: its elements are its bytes
 abbrev pub raw_by : ℕ → List Field → BeamhoppingMode
-raw_by p ts = Reserved (record { start = from "reserved" p ts / 8; length = the "reserved" ts / 8; count = the "reserved" ts / 8 })
+raw_by p ts =
+    Reserved (record {
+      start = from "reserved" p ts / 8;
+      length = the "reserved" ts / 8;
+      count =
+          the "reserved" ts / 8;
+    })
 
 unfoldable pub mode_by : ℕ → ℕ → List Field → BeamhoppingMode
-mode_by p m ts = cond (eqb m 0) (dwell_by ts) (cond (eqb m 1) (bitmap_by p ts) (cond (eqb m 2) (grid_by ts) (raw_by p ts)))
+mode_by p m ts =
+    cond (eqb m 0) (dwell_by ts) (cond (eqb m 1) (bitmap_by p ts) (cond (eqb m 2) (grid_by ts) (raw_by p ts)))
 
 -- ---- what is at a place: a mode by its number, and each of the four; e: where the plan ends
 
-unfoldable pub mode_at : List ℕ → ℕ → ℕ → ℕ → ModeAnswer
-mode_at b e m p = read b e (mode m) p (λ ts q. Mode (mode_by p m ts) q) Refused
+unfoldable pub mode_at : List ℕ → ℕ → ℕ → ℕ → Result (Found BeamhoppingMode) Refusal
+mode_at b e m p = read b e (mode m) p (λ ts q. found_at (mode_by p m ts) q) Err
 
-unfoldable pub dwell_at : List ℕ → ℕ → ℕ → ModeAnswer
-dwell_at b e p = read b e dwell p (λ ts q. Mode (dwell_by ts) q) Refused
+unfoldable pub dwell_at : List ℕ → ℕ → ℕ → Result (Found BeamhoppingMode) Refusal
+dwell_at b e p = read b e dwell p (λ ts q. found_at (dwell_by ts) q) Err
 
-unfoldable pub bitmap_at : List ℕ → ℕ → ℕ → ModeAnswer
-bitmap_at b e p = read b e bitmap p (λ ts q. Mode (bitmap_by p ts) q) Refused
+unfoldable pub bitmap_at : List ℕ → ℕ → ℕ → Result (Found BeamhoppingMode) Refusal
+bitmap_at b e p = read b e bitmap p (λ ts q. found_at (bitmap_by p ts) q) Err
 
-unfoldable pub grid_at : List ℕ → ℕ → ℕ → ModeAnswer
-grid_at b e p = read b e grid p (λ ts q. Mode (grid_by ts) q) Refused
+unfoldable pub grid_at : List ℕ → ℕ → ℕ → Result (Found BeamhoppingMode) Refusal
+grid_at b e p = read b e grid p (λ ts q. found_at (grid_by ts) q) Err
 
-unfoldable pub raw_at : List ℕ → ℕ → ℕ → ModeAnswer
-raw_at b e p = read b e (raw "reserved") p (λ ts q. Mode (raw_by p ts) q) Refused
+unfoldable pub raw_at : List ℕ → ℕ → ℕ → Result (Found BeamhoppingMode) Refusal
+raw_at b e p = read b e (raw "reserved") p (λ ts q. found_at (raw_by p ts) q) Err

@@ -3,11 +3,12 @@
 
 ghost use Rattle.std.specs.Prelude.{◌≡◌, ℕ, ◌%◌};
 ghost use Rattle.bits.specs.Read.{Place, Room};
-ghost use Rattle.plan_modes.specs.Modes.{plan_mode, plan_mode_number, mode_refusal, dwell_at, bitmap_at, grid_at, raw_at, mode_at};
+ghost use Rattle.plan_modes.specs.Modes.{plan_mode, plan_mode_number, dwell_at, bitmap_at, grid_at, raw_at, mode_at};
 
+use bit_reader::enough;
 use bits::value_at;
-use clocks::{ClockAnswer, clock_refusal, clock_within};
-use format::Refusal;
+use clocks::clock_within;
+use format::{Fault, Found, Refusal};
 use parts::{Part, slots_on};
 
 #[derive(Clone, Copy)]
@@ -54,49 +55,28 @@ pub enum BeamhoppingMode {
     Reserved(Part),
 }
 
-// What reading a mode finds: the mode and the place behind it, or why it is refused.
-#[derive(Clone, Copy)]
-pub enum ModeAnswer {
-    Mode { mode: BeamhoppingMode, next: u16 },
-    Refused(Refusal),
-}
-
-// The refusal in an answer; zeros where the answer is a mode.
-pub fn mode_refusal(r: ModeAnswer) -> Refusal
-    ensures { result ≡ mode_refusal r }
-{
-    match r {
-        ModeAnswer::Mode { mode: _, next: _ } => Refusal {
-            number: 0,
-            need: 0,
-            have: 0,
-        },
-        ModeAnswer::Refused(f) => f,
-    }
-}
-
-impl TimePlanMode {
+impl From<u8> for TimePlanMode {
     // The mode of a number, of which the last two bits count.
-    pub fn from_u8(v: u8) -> Self
-        ensures { result ≡ plan_mode v }
-    {
-        let m = v % 4;
-        if m == 0 {
-            return TimePlanMode::DwellOnTime;
-        }
-        if m == 1 {
-            return TimePlanMode::Bitmap;
-        }
-        if m == 2 {
-            return TimePlanMode::GridRevisitSleep;
-        }
-        TimePlanMode::Reserved(m)
-    }
+    ghost from_gives = { λ v m. m ≡ plan_mode v };
 
-    pub fn to_u8(self) -> u8
-        ensures { result ≡ plan_mode_number self }
-    {
-        match self {
+    #[tactic(auto, unfolding(crate::specs::Modes::plan_mode))]
+    fn from(v: u8) -> Self {
+        match v % 4 {
+            0 => TimePlanMode::DwellOnTime,
+            1 => TimePlanMode::Bitmap,
+            2 => TimePlanMode::GridRevisitSleep,
+            other => TimePlanMode::Reserved(other),
+        }
+    }
+}
+
+impl From<TimePlanMode> for u8 {
+    // The number of a mode.
+    ghost from_gives = { λ m v. v ≡ plan_mode_number m };
+
+    #[tactic(auto, unfolding(crate::specs::Modes::plan_mode_number))]
+    fn from(kind: TimePlanMode) -> u8 {
+        match kind {
             TimePlanMode::DwellOnTime => 0,
             TimePlanMode::Bitmap => 1,
             TimePlanMode::GridRevisitSleep => 2,
@@ -105,204 +85,147 @@ impl TimePlanMode {
     }
 }
 
-// Mode 0.
-fn read_dwell(s: &[u8], at: u16) -> ModeAnswer
-    requires { Place s.now at }
-    ensures { (e : ℕ) → result ≡ dwell_at s.now e at }
-{
-    let have = 8 * s.len() - at as usize;
-    if have < 96 {
-        return ModeAnswer::Refused(Refusal {
-            number: 10,
-            need: 96,
-            have,
-        });
+// The two conversions under the ported crate's names.
+impl TimePlanMode {
+    pub fn from_u8(v: u8) -> Self
+        ensures { result ≡ plan_mode v }
+    {
+        TimePlanMode::from(v)
     }
-    let k = clock_within(s, at);
-    let ClockAnswer::Read { clock: dwell, next } = k else {
-        return ModeAnswer::Refused(clock_refusal(k));
-    };
-    let k = clock_within(s, next);
-    let ClockAnswer::Read { clock: on, next } = k else {
-        return ModeAnswer::Refused(clock_refusal(k));
-    };
-    ModeAnswer::Mode {
-        mode: BeamhoppingMode::Mode0 {
-            dwell_duration_base: dwell.base,
-            dwell_duration_ext: dwell.ext,
-            on_time_base: on.base,
-            on_time_ext: on.ext,
-            dwell_duration_reserved_zero_future_use: dwell.reserved,
-            on_time_reserved_zero_future_use: on.reserved,
-        },
-        next,
+
+    pub fn to_u8(self) -> u8
+        ensures { result ≡ plan_mode_number self }
+    {
+        u8::from(self)
     }
 }
 
+// Mode 0.
+fn read_dwell(s: &[u8], at: u16) -> Result<Found<BeamhoppingMode>, Refusal>
+    requires { Place s.now at }
+    ensures { (e : ℕ) → result ≡ dwell_at s.now e at }
+{
+    enough(s, at, Fault::DwellCut, 96)?;
+    let dwell = clock_within(s, at)?;
+    let on = clock_within(s, dwell.next)?;
+    Ok(Found {
+        value: BeamhoppingMode::Mode0 {
+            dwell_duration_base: dwell.value.base,
+            dwell_duration_ext: dwell.value.ext,
+            on_time_base: on.value.base,
+            on_time_ext: on.value.ext,
+            dwell_duration_reserved_zero_future_use: dwell.value.reserved,
+            on_time_reserved_zero_future_use: on.value.reserved,
+        },
+        next: on.next,
+    })
+}
+
 // Mode 1 where its header is there.
-fn bitmap_at(s: &[u8], at: u16) -> ModeAnswer
+fn bitmap_at(s: &[u8], at: u16) -> Result<Found<BeamhoppingMode>, Refusal>
     requires room { Room s.now at 32 }
     requires at_value { at % 8 ≡ 0 }
     ensures { (e : ℕ) → result ≡ bitmap_at s.now e at }
 {
-    let reserved_size = value_at(s, at, 1) as u8;
     let size = value_at(s, at + 1, 15) as usize;
-    let reserved_slot = value_at(s, at + 16, 1) as u8;
-    let slot = value_at(s, at + 17, 15) as u16;
     let next = at + 32;
-    let from = next as usize;
-    let have = 8 * s.len() - from;
-    if have < size {
-        return ModeAnswer::Refused(Refusal {
-            number: 12,
-            need: size,
-            have,
-        });
-    }
-    let start = from / 8;
+    enough(s, next, Fault::SlotsCut, size)?;
+    let start = next as usize / 8;
     let length = (size + 7) / 8;
-    let on = slots_on(s, start, size);
-    ModeAnswer::Mode {
-        mode: BeamhoppingMode::Mode1 {
+    Ok(Found {
+        value: BeamhoppingMode::Mode1 {
             bit_map_size: size as u16,
-            current_slot: slot,
+            current_slot: value_at(s, at + 17, 15) as u16,
             slot_transmission_on: Part {
                 start,
                 length,
                 count: size,
             },
-            slots_on: on,
-            reserved_zero_future_use_size: reserved_size,
-            reserved_zero_future_use_slot: reserved_slot,
+            slots_on: slots_on(s, start, size),
+            reserved_zero_future_use_size: value_at(s, at, 1) as u8,
+            reserved_zero_future_use_slot: value_at(s, at + 16, 1) as u8,
         },
-        next: (from + 8 * length) as u16,
-    }
+        next: (next as usize + 8 * length) as u16,
+    })
 }
 
 // Mode 1.
-fn read_bitmap(s: &[u8], at: u16) -> ModeAnswer
+fn read_bitmap(s: &[u8], at: u16) -> Result<Found<BeamhoppingMode>, Refusal>
     requires place { Place s.now at }
     requires at_value { at % 8 ≡ 0 }
     ensures { (e : ℕ) → result ≡ bitmap_at s.now e at }
 {
-    let have = 8 * s.len() - at as usize;
-    if have < 32 {
-        return ModeAnswer::Refused(Refusal {
-            number: 11,
-            need: 32,
-            have,
-        });
-    }
+    enough(s, at, Fault::BitmapHeaderCut, 32)?;
     bitmap_at(s, at)
 }
 
-// Mode 2 where its bits are there.
-fn grid_at(s: &[u8], at: u16) -> ModeAnswer
-    requires { Room s.now at 192 }
-    ensures { (e : ℕ) → result ≡ grid_at s.now e at }
-{
-    let k = clock_within(s, at);
-    let ClockAnswer::Read { clock: grid, next } = k else {
-        return ModeAnswer::Refused(clock_refusal(k));
-    };
-    let k = clock_within(s, next);
-    let ClockAnswer::Read { clock: visit, next } = k else {
-        return ModeAnswer::Refused(clock_refusal(k));
-    };
-    let k = clock_within(s, next);
-    let ClockAnswer::Read { clock: sleep, next } = k else {
-        return ModeAnswer::Refused(clock_refusal(k));
-    };
-    let k = clock_within(s, next);
-    let ClockAnswer::Read { clock: span, next } = k else {
-        return ModeAnswer::Refused(clock_refusal(k));
-    };
-    ModeAnswer::Mode {
-        mode: BeamhoppingMode::Mode2 {
-            grid_size_base: grid.base,
-            grid_size_ext: grid.ext,
-            revisit_duration_base: visit.base,
-            revisit_duration_ext: visit.ext,
-            sleep_time_base: sleep.base,
-            sleep_time_ext: sleep.ext,
-            sleep_duration_base: span.base,
-            sleep_duration_ext: span.ext,
-            grid_size_reserved_zero_future_use: grid.reserved,
-            revisit_duration_reserved_zero_future_use: visit.reserved,
-            sleep_time_reserved_zero_future_use: sleep.reserved,
-            sleep_duration_reserved_zero_future_use: span.reserved,
-        },
-        next,
-    }
-}
-
 // Mode 2.
-fn read_grid(s: &[u8], at: u16) -> ModeAnswer
+fn read_grid(s: &[u8], at: u16) -> Result<Found<BeamhoppingMode>, Refusal>
     requires { Place s.now at }
     ensures { (e : ℕ) → result ≡ grid_at s.now e at }
 {
-    let have = 8 * s.len() - at as usize;
-    if have < 192 {
-        return ModeAnswer::Refused(Refusal {
-            number: 13,
-            need: 192,
-            have,
-        });
-    }
-    grid_at(s, at)
+    enough(s, at, Fault::GridCut, 192)?;
+    let grid = clock_within(s, at)?;
+    let visit = clock_within(s, grid.next)?;
+    let sleep = clock_within(s, visit.next)?;
+    let span = clock_within(s, sleep.next)?;
+    Ok(Found {
+        value: BeamhoppingMode::Mode2 {
+            grid_size_base: grid.value.base,
+            grid_size_ext: grid.value.ext,
+            revisit_duration_base: visit.value.base,
+            revisit_duration_ext: visit.value.ext,
+            sleep_time_base: sleep.value.base,
+            sleep_time_ext: sleep.value.ext,
+            sleep_duration_base: span.value.base,
+            sleep_duration_ext: span.value.ext,
+            grid_size_reserved_zero_future_use: grid.value.reserved,
+            revisit_duration_reserved_zero_future_use: visit.value.reserved,
+            sleep_time_reserved_zero_future_use: sleep.value.reserved,
+            sleep_duration_reserved_zero_future_use: span.value.reserved,
+        },
+        next: span.next,
+    })
 }
 
 // Mode 3: the bytes up to the plan's end, or none where that is past the data.
-fn read_raw(s: &[u8], at: u16, end: u16) -> ModeAnswer
+fn read_raw(s: &[u8], at: u16, end: u16) -> Result<Found<BeamhoppingMode>, Refusal>
     requires { Place s.now at }
     ensures { result ≡ raw_at s.now end at }
 {
     let start = at as usize / 8;
-    if 8 * s.len() < end as usize {
-        return ModeAnswer::Mode {
-            mode: BeamhoppingMode::Reserved(Part {
+    if 8 * s.len() < end as usize || end <= at {
+        return Ok(Found {
+            value: BeamhoppingMode::Reserved(Part {
                 start,
                 length: 0,
                 count: 0,
             }),
             next: at,
-        };
-    }
-    if end <= at {
-        return ModeAnswer::Mode {
-            mode: BeamhoppingMode::Reserved(Part {
-                start,
-                length: 0,
-                count: 0,
-            }),
-            next: at,
-        };
+        });
     }
     let length = (end - at) as usize / 8;
-    ModeAnswer::Mode {
-        mode: BeamhoppingMode::Reserved(Part {
+    Ok(Found {
+        value: BeamhoppingMode::Reserved(Part {
             start,
             length,
             count: length,
         }),
         next: end,
-    }
+    })
 }
 
-// The mode of a number, in a plan that ends at a place.
-pub fn read_mode(s: &[u8], at: u16, end: u16, mode: u64) -> ModeAnswer
+// The mode of a number, in a plan that ends at a place. By the number and not by its `TimePlanMode`, as the table's
+// description goes by it: a `Reserved` may hold any.
+pub fn read_mode(s: &[u8], at: u16, end: u16, mode: u64) -> Result<Found<BeamhoppingMode>, Refusal>
     requires place { Place s.now at }
     requires at_value { at % 8 ≡ 0 }
     ensures { result ≡ mode_at s.now end mode at }
 {
-    if mode == 0 {
-        return read_dwell(s, at);
+    match mode {
+        0 => read_dwell(s, at),
+        1 => read_bitmap(s, at),
+        2 => read_grid(s, at),
+        _ => read_raw(s, at, end),
     }
-    if mode == 1 {
-        return read_bitmap(s, at);
-    }
-    if mode == 2 {
-        return read_grid(s, at);
-    }
-    read_raw(s, at, end)
 }

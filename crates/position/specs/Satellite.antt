@@ -1,29 +1,15 @@
 -- Table id 0: a satellite from its fields, each by its name.
 -- Assumes nothing: these are definitions.
-use Rattle.std.specs.Prelude.{ℕ, cond, List, eqb}
-use Rattle.format.specs.Refusals.{refuse}
+use Rattle.std.specs.Prelude.{ℕ, cond, List, eqb, Result, Err}
 use Rattle.format.specs.Syntax.{when, Field}
 use Rattle.format.specs.Tables.{orbital, elements, position}
 use Rattle.format.specs.ByName.{the}
-use Rattle.format.specs.At.{read}
+use Rattle.format.specs.At.{read, found_at}
 use Rattle.format.specs.declared.Refusal.{Refusal}
+use Rattle.format.specs.declared.Found.{Found}
 use Rattle.position.specs.declared.PositionSystem.{PositionSystem}
 use Rattle.position.specs.declared.PositionSystem.TheVariants.{Orbital, Sgp4}
 use Rattle.position.specs.declared.PositionV2Satellite.{PositionV2Satellite}
-use Rattle.position.specs.declared.SystemAnswer.{SystemAnswer}
-use Rattle.position.specs.declared.SystemAnswer.TheVariants.{Read}
-use Rattle.position.specs.declared.SystemAnswer.TheVariants as system
-use Rattle.position.specs.declared.PositionV2Answer.{PositionV2Answer}
-use Rattle.position.specs.declared.PositionV2Answer.TheVariants.{Entry, Refused}
-
--- the refusal in an answer; zeros where there is none
-unfoldable pub system_refusal : SystemAnswer → Refusal
-system_refusal (Read m n) = refuse 0 0 0
-system_refusal (system.Refused f) = f
-
-unfoldable pub position_refusal : PositionV2Answer → Refusal
-position_refusal (Entry t n) = refuse 0 0 0
-position_refusal (Refused f) = f
 
 -- a position from its fields, of the one kind and of the other
 abbrev pub orbital_of : List Field → PositionSystem
@@ -57,15 +43,15 @@ satellite_of ts = record {
 }
 
 -- the satellite at a place
-unfoldable pub satellite_at : List ℕ → ℕ → PositionV2Answer
-satellite_at b p = read b 0 position p (λ ts q. Entry (satellite_of ts) q) Refused
+unfoldable pub satellite_at : List ℕ → ℕ → Result (Found PositionV2Satellite) Refusal
+satellite_at b p = read b 0 position p (λ ts q. found_at (satellite_of ts) q) Err
 
 -- the position behind a position_system of k, and each kind of it
-unfoldable pub system_at : List ℕ → ℕ → ℕ → SystemAnswer
-system_at b k p = read b 0 (when (eqb k 0) orbital elements) p (λ ts q. Read (system_of k ts) q) system.Refused
+unfoldable pub system_at : List ℕ → ℕ → ℕ → Result (Found PositionSystem) Refusal
+system_at b k p = read b 0 (when (eqb k 0) orbital elements) p (λ ts q. found_at (system_of k ts) q) Err
 
-unfoldable pub orbital_at : List ℕ → ℕ → SystemAnswer
-orbital_at b p = read b 0 orbital p (λ ts q. Read (orbital_of ts) q) system.Refused
+unfoldable pub orbital_at : List ℕ → ℕ → Result (Found PositionSystem) Refusal
+orbital_at b p = read b 0 orbital p (λ ts q. found_at (orbital_of ts) q) Err
 
-unfoldable pub elements_at : List ℕ → ℕ → SystemAnswer
-elements_at b p = read b 0 elements p (λ ts q. Read (elements_of ts) q) system.Refused
+unfoldable pub elements_at : List ℕ → ℕ → Result (Found PositionSystem) Refusal
+elements_at b p = read b 0 elements p (λ ts q. found_at (elements_of ts) q) Err

@@ -3,11 +3,12 @@
 
 ghost use Rattle.std.specs.Prelude.{◌≡◌, ◌+◌};
 ghost use Rattle.bits.specs.Read.{Place, Room};
-ghost use Rattle.position.specs.Satellite.{orbital_at, elements_at, system_at, satellite_at, system_refusal, position_refusal};
-ghost use Rattle.position.specs.declared.SystemAnswer.TheVariants.{Read};
+ghost use Rattle.position.specs.Satellite.{orbital_at, elements_at, system_at, satellite_at};
+ghost use Rattle.format.specs.At.{found_at};
 
-use bits::{Bits, read_u, refusal_of, value_at};
-use format::Refusal;
+use bit_reader::enough;
+use bits::{read_u, value_at};
+use format::{Fault, Found, Refusal};
 
 // Where a satellite is: a place on the orbit, or the elements of one.
 #[derive(Clone, Copy)]
@@ -40,85 +41,26 @@ pub struct PositionV2Satellite {
     pub reserved_zero_future_use: u8,
 }
 
-// What reading a position finds, and the place behind it.
-#[derive(Clone, Copy)]
-pub enum SystemAnswer {
-    Read { position: PositionSystem, next: u16 },
-    Refused(Refusal),
-}
-
-// What reading a satellite finds, and the place behind it.
-#[derive(Clone, Copy)]
-pub enum PositionV2Answer {
-    Entry {
-        satellite: PositionV2Satellite,
-        next: u16,
-    },
-    Refused(Refusal),
-}
-
-// The refusal in an answer; zeros where there is none.
-fn system_refusal(r: SystemAnswer) -> Refusal
-    ensures { result ≡ system_refusal r }
-{
-    match r {
-        SystemAnswer::Read {
-            position: _,
-            next: _,
-        } => Refusal {
-            number: 0,
-            need: 0,
-            have: 0,
-        },
-        SystemAnswer::Refused(f) => f,
-    }
-}
-
-// The same of a satellite's answer.
-pub fn position_refusal(r: PositionV2Answer) -> Refusal
-    ensures { result ≡ position_refusal r }
-{
-    match r {
-        PositionV2Answer::Entry {
-            satellite: _,
-            next: _,
-        } => Refusal {
-            number: 0,
-            need: 0,
-            have: 0,
-        },
-        PositionV2Answer::Refused(f) => f,
-    }
-}
-
 // A place on the orbit: 24 bits, tested together.
-fn read_orbital(s: &[u8], at: u16) -> SystemAnswer
+fn read_orbital(s: &[u8], at: u16) -> Result<Found<PositionSystem>, Refusal>
     requires { Place s.now at }
     ensures { result ≡ orbital_at s.now at }
 {
-    let have = 8 * s.len() - at as usize;
-    if have < 24 {
-        return SystemAnswer::Refused(Refusal {
-            number: 3,
-            need: 24,
-            have,
-        });
-    }
-    let position = PositionSystem::Orbital {
-        orbital_position: value_at(s, at, 16) as u16,
-        west_east_flag: value_at(s, at + 16, 1) == 1,
-        reserved_zero_future_use: value_at(s, at + 17, 7) as u8,
-    };
-    SystemAnswer::Read {
-        position,
+    enough(s, at, Fault::OrbitalCut, 24)?;
+    Ok(Found {
+        value: PositionSystem::Orbital {
+            orbital_position: value_at(s, at, 16) as u16,
+            west_east_flag: value_at(s, at + 16, 1) == 1,
+            reserved_zero_future_use: value_at(s, at + 17, 7) as u8,
+        },
         next: at + 24,
-    }
+    })
 }
 
 // The orbital elements from a place where all of them are there.
 fn elements_at(s: &[u8], at: u16) -> PositionSystem
     requires { Room s.now at 344 }
-    ensures { Read result (at + 344) ≡ elements_at s.now at }
+    ensures { found_at result (at + 344) ≡ elements_at s.now at }
 {
     PositionSystem::Sgp4 {
         epoch_year: value_at(s, at, 8) as u8,
@@ -137,60 +79,43 @@ fn elements_at(s: &[u8], at: u16) -> PositionSystem
 }
 
 // The orbital elements: 344 bits, tested together.
-fn read_elements(s: &[u8], at: u16) -> SystemAnswer
+fn read_elements(s: &[u8], at: u16) -> Result<Found<PositionSystem>, Refusal>
     requires { Place s.now at }
     ensures { result ≡ elements_at s.now at }
 {
-    let have = 8 * s.len() - at as usize;
-    if have < 344 {
-        return SystemAnswer::Refused(Refusal {
-            number: 4,
-            need: 344,
-            have,
-        });
-    }
-    SystemAnswer::Read {
-        position: elements_at(s, at),
+    enough(s, at, Fault::ElementsCut, 344)?;
+    Ok(Found {
+        value: elements_at(s, at),
         next: at + 344,
-    }
+    })
 }
 
 // The position that position_system chooses.
-fn read_system(s: &[u8], at: u16, kind: u64) -> SystemAnswer
+fn read_system(s: &[u8], at: u16, kind: u64) -> Result<Found<PositionSystem>, Refusal>
     requires { Place s.now at }
     ensures { result ≡ system_at s.now kind at }
 {
-    if kind == 0 {
-        return read_orbital(s, at);
+    match kind {
+        0 => read_orbital(s, at),
+        _ => read_elements(s, at),
     }
-    read_elements(s, at)
 }
 
 // The satellite at a place.
-pub fn read_satellite(s: &[u8], at: u16) -> PositionV2Answer
+pub fn read_satellite(s: &[u8], at: u16) -> Result<Found<PositionV2Satellite>, Refusal>
     requires { Place s.now at }
     ensures { result ≡ satellite_at s.now at }
 {
-    let r = read_u(s, at, 24);
-    let Bits::Value { value: id, next } = r else {
-        return PositionV2Answer::Refused(refusal_of(r));
-    };
-    let r = read_u(s, next, 7);
-    let Bits::Value { value: spare, next } = r else {
-        return PositionV2Answer::Refused(refusal_of(r));
-    };
-    let r = read_u(s, next, 1);
-    let Bits::Value { value: kind, next } = r else {
-        return PositionV2Answer::Refused(refusal_of(r));
-    };
-    let p = read_system(s, next, kind);
-    let SystemAnswer::Read { position, next } = p else {
-        return PositionV2Answer::Refused(system_refusal(p));
-    };
-    let satellite = PositionV2Satellite {
-        satellite_id: id as u32,
-        position,
-        reserved_zero_future_use: spare as u8,
-    };
-    PositionV2Answer::Entry { satellite, next }
+    let id = read_u(s, at, 24)?;
+    let reserved = read_u(s, id.next, 7)?;
+    let kind = read_u(s, reserved.next, 1)?;
+    let position = read_system(s, kind.next, kind.value)?;
+    Ok(Found {
+        value: PositionV2Satellite {
+            satellite_id: id.value as u32,
+            position: position.value,
+            reserved_zero_future_use: reserved.value as u8,
+        },
+        next: position.next,
+    })
 }

@@ -7,23 +7,24 @@ use mathlib.Core.List.{List}
 use native.Mathlib.Nat.{sub-zero}
 use native.Mathlib.Omega.{arith}
 use lib.ListN.{length}
+use Rattle.std.specs.Prelude.{Result, Err}
 use Rattle.format.specs.Syntax.{Syntax, end}
 use Rattle.format.specs.Tables.{times, usable, metadata, motion, acceleration, ephemeris}
+use Rattle.format.specs.declared.Fault.TheVariants.{UsableStartCut, UsableStopCut}
 use Rattle.format.specs.declared.Refusal.{Refusal}
 use Rattle.format.proofs.Good.{Fine, least_zero}
-use Rattle.read_runs.specs.declared.Step.{Step}
-use Rattle.read_runs.specs.declared.Step.TheVariants.{Refused}
+use Rattle.runs.specs.declared.Step.{Step}
 use Rattle.read_runs.specs.Came.{LedgerPlaced, Way, some_way, Came, Laid}
 use Rattle.read_runs.proofs.CameLaws.{stay, go_on, then, stops}
 use Rattle.read_runs.proofs.Runs.{placed_on}
 
 -- the metadata is whole bytes: 120 bits, in 20 bytes of a ledger, and the usable times
-fine_stop : (stop : ℕ) → Fine false 120 20 (usable 18 "usable_stop_time" stop end) × Fine false 176 28 (usable 18 "usable_stop_time" stop end)
+fine_stop : (stop : ℕ) → Fine false 120 20 (usable UsableStopCut "usable_stop_time" stop end) × Fine false 176 28 (usable UsableStopCut "usable_stop_time" stop end)
 fine_stop stop = omega arith
 
-fine_usables : (start stop : ℕ) → Fine false 120 20 (usable 17 "usable_start_time" start (usable 18 "usable_stop_time" stop end))
+fine_usables : (start stop : ℕ) → Fine false 120 20 (usable UsableStartCut "usable_start_time" start (usable UsableStopCut "usable_stop_time" stop end))
 fine_usables start stop =
-    let s = usable 18 "usable_stop_time" stop end in
+    let s = usable UsableStopCut "usable_stop_time" stop end in
     ((tt, λ _ _ _ _. least_zero s, (tt, λ _. (tt, λ _. (tt, λ _. (tt, λ _. (fine_stop stop).1))))), (fine_stop stop).0)
 
 pub fine_metadata : (start stop : ℕ) → Fine false 0 0 (metadata start stop end)
@@ -66,9 +67,11 @@ module _ {f : Syntax → Syntax} {count place at there here i : ℕ} {l out₀ o
           aligned = m;
         }
 
-    pub stop : {at₁ : ℕ} {out₁ out₂ out' : List ℕ} {g : Refusal} {r : Step} → r ≡ Refused g → ((way : Way) (s : Syntax) → Laid way l (f s) there at₁ out₁ (λ _. s) out₂ r)
+    pub stop : {at₁ : ℕ} {out₁ out₂ out' : List ℕ} {g : Refusal} {r : Result (Step ℕ) Refusal} → r ≡ Err g
+        → ((way : Way) (s : Syntax) → Laid way l (f s) there at₁ out₁ (λ _. s) out₂ (Err g))
         → (way : Way) (s : Syntax) → Laid way l (times count f s) place at out₀ (λ _. s) out' r
-    stop {out' = out'} {r = r} q y way s = then (st.came way s) (subst (λ (z : Syntax). Laid way l z there here out (λ _. s) out' r) (one_more s) (stops q (y way _)))
+    stop {out' = out'} {r = r} q y way s =
+        then (st.came way s) (subst (λ (z : Syntax). Laid way l z there here out (λ _. s) out' r) (one_more s) (stops q (y way _)))
 
   pub ended : count ≤ i → (way : Way) (s : Syntax) → Came way l (times count f s) place at out₀ s there here out
   ended h way s =

@@ -2,7 +2,7 @@
 -- all three (28).
 -- Assumes nothing.
 use Prim.Native.Nat.{ℕ, ◌+◌, ◌-◌, ◌%◌, ◌^◌, ◌≤◌, ◌<◌}
-use mathlib.Core.Path.{◌≡◌, sym, ap, ◌∙◌, subst}
+use mathlib.Core.Path.{◌≡◌, sym, ap, ◌∙◌}
 use mathlib.Core.Bool.{Bool, true, false, cond}
 use mathlib.Core.List.{List, [], ◌∷◌, ◌++◌, append_assoc, append-nil}
 use native.Mathlib.Omega.{arith}
@@ -10,14 +10,17 @@ use lib.Dec.{eqb}
 use lib.ListN.{length, take, drop, length-append, length-drop}
 use lib.Seq.{drop-drop, length-take-le}
 use borrow.Author.Tests.{eqb-true}
+use Rattle.std.specs.Prelude.{Result, Err}
 use Rattle.format.specs.Digits.{digits, value, Below, bits_of, splice}
 use Rattle.format.specs.Refusals.{refuse}
-use Rattle.format.specs.Syntax.{Name, unsigned, Syntax, end, field, plan, raw, before, Field, num, bytes, edition_2, Parse, got, refused, and_then, push}
+use Rattle.format.specs.Syntax.{Name, unsigned, Syntax, end, field, plan, raw, before, Field, num, bytes, Parse, got, refused, and_then, push}
+use Rattle.format.specs.declared.Edition.TheVariants.{Second}
 use Rattle.format.specs.Tables.{hopping, beamhopping}
 use Rattle.format.specs.Body.{planned, laid, kept}
 use Rattle.format.specs.Ledger.{grant, leaves, read_filler, read_ledger}
 use Rattle.format.specs.declared.Refusal.{Refusal}
 use Rattle.format.specs.ByName.{the}
+use Rattle.format.specs.declared.Fault.TheVariants.{PlanLengthMisfit}
 use Rattle.format.proofs.DigitLaws.{length_bits, value_lt, below_take, below_drop}
 use Rattle.format.proofs.ParseLaws.{push_got, grant_got}
 use Rattle.format.proofs.Good.{Good, Fine, laid_num, laid_bytes, laid_nil, kept_filler}
@@ -27,10 +30,8 @@ use Rattle.format.proofs.PlanLaws.{behind_length, plan_field, behind_raw, filler
 use Rattle.bits.proofs.Splices.{splice_splice}
 use Rattle.write_runs.specs.Went.{pushes}
 use Rattle.write_runs.proofs.WentLaws.{pushes_got, pushes_refused}
-use Rattle.read_runs.specs.declared.Step.{Step}
-use Rattle.read_runs.specs.declared.Step.TheVariants.{Refused}
+use Rattle.runs.specs.declared.Step.{Step}
 use Rattle.read_runs.specs.Came.{Way, way_of, Came, Halted, Laid}
-use Rattle.read_runs.proofs.CameLaws.{stopped}
 use Rattle.read_plans.specs.Taken.{Took, Taken, leaves_by}
 use Rattle.read_plans.proofs.TakenLaws.{pushes_more}
 
@@ -48,17 +49,17 @@ unfolding beamhopping
 fine_hopping = ((fine_beamhopping.1 0).1 0).2
 
 -- a field that was read
-field_read : (b : Bool) (n : ℕ) (nm : Name) (k : Syntax) (bs : List ℕ) {ts : List Field} {rest : List ℕ} → read_ledger edition_2 b n (field unsigned nm 12 (λ _. k)) bs ≡ got ts rest
-    → (us : List Field) × (ts ≡ num unsigned nm 12 (value 256 (take 2 bs)) ∷ us) × (read_ledger edition_2 b n k (drop 2 bs) ≡ got us rest)
+field_read : (b : Bool) (n : ℕ) (nm : Name) (k : Syntax) (bs : List ℕ) {ts : List Field} {rest : List ℕ} → read_ledger Second b n (field unsigned nm 12 (λ _. k)) bs ≡ got ts rest
+    → (us : List Field) × (ts ≡ num unsigned nm 12 (value 256 (take 2 bs)) ∷ us) × (read_ledger Second b n k (drop 2 bs) ≡ got us rest)
 unfolding read_ledger
 field_read b n nm k bs e =
     let x : ℕ = value 256 (take 2 bs) in
     let v : ℕ = x % 2 ^ 12 in
-    let p = grant_got n 2 (eqb v x) bs (push (num unsigned nm 12 v) (read_ledger edition_2 b n k (drop 2 bs))) e in
-    let o = push_got (num unsigned nm 12 v) (read_ledger edition_2 b n k (drop 2 bs)) p.2 in
+    let p = grant_got n 2 (eqb v x) bs (push (num unsigned nm 12 v) (read_ledger Second b n k (drop 2 bs))) e in
+    let o = push_got (num unsigned nm 12 v) (read_ledger Second b n k (drop 2 bs)) p.2 in
     (o.0, o.2 ∙ ap (λ (j : ℕ). num unsigned nm 12 j ∷ o.0) (eqb-true v x p.1), o.1)
 
-raw_read : (b : Bool) (n : ℕ) (nm : Name) (bs : List ℕ) {ts : List Field} {rest : List ℕ} → Below 256 bs → read_ledger edition_2 b n (raw nm) bs ≡ got ts rest → (fs : List ℕ) × (ts ≡ bytes nm fs ∷ [])
+raw_read : (b : Bool) (n : ℕ) (nm : Name) (bs : List ℕ) {ts : List Field} {rest : List ℕ} → Below 256 bs → read_ledger Second b n (raw nm) bs ≡ got ts rest → (fs : List ℕ) × (ts ≡ bytes nm fs ∷ [])
 unfolding read_ledger
 raw_read b n nm bs {ts} {rest} h e =
     let o = bytes_got n bs (λ xs r. got (bytes nm xs ∷ []) r) h e in
@@ -72,12 +73,12 @@ pub record Plan (b : Bool) (l : List ℕ) (nm : Name) (p₀ p₂ p₃ v : ℕ) (
   pub fields : gs ≡ num unsigned nm 12 v ∷ us
   pub filling : hs ≡ bytes "filler" fs ∷ []
   pub test : leaves b v us (length fs) ≡ leaves_by b v (length (kept us)) (length fs) (value 256 (take 1 (drop 1 (drop 2 (drop p₀ l)))))
-  pub reads : read_ledger edition_2 b (length l) (plan nm hopping) (drop p₀ l)
-      ≡ cond (leaves b v us (length fs)) (got (planned nm v us fs) (drop p₃ l)) (refused 28 (length l - length (drop 2 (drop p₂ l))) 0)
+  pub reads : read_ledger Second b (length l) (plan nm hopping) (drop p₀ l)
+      ≡ cond (leaves b v us (length fs)) (got (planned nm v us fs) (drop p₃ l)) (refused PlanLengthMisfit (length l - length (drop 2 (drop p₂ l))) 0)
 
 pub plan_of_lem : (b : Bool) (l : List ℕ) (nm : Name) (p₀ p₂ p₃ : ℕ) (gs hs : List Field) → Below 256 l
-    → read_ledger edition_2 b (length l) (field unsigned nm 12 (λ _. hopping)) (drop p₀ l) ≡ got gs (drop p₂ l)
-    → read_ledger edition_2 b (length l) (raw "filler") (drop p₂ l) ≡ got hs (drop p₃ l)
+    → read_ledger Second b (length l) (field unsigned nm 12 (λ _. hopping)) (drop p₀ l) ≡ got gs (drop p₂ l)
+    → read_ledger Second b (length l) (raw "filler") (drop p₂ l) ≡ got hs (drop p₃ l)
     → Plan b l nm p₀ p₂ p₃ (value 256 (take 2 (drop p₀ l))) gs hs
 plan_of_lem b l nm p₀ p₂ p₃ gs hs h e d =
     let n : ℕ = length l in
@@ -87,8 +88,8 @@ plan_of_lem b l nm p₀ p₂ p₃ gs hs h e d =
     let r = raw_read b n "filler" (drop p₂ l) (below_drop 256 p₂ l h) d in
     let us : List Field = o.0 in
     let fs : List ℕ = r.0 in
-    let g = found n edition_2 b true 48 9 hopping (drop 2 bs) fine_hopping (below_drop 256 2 bs (below_drop 256 p₀ l h)) o.2 in
-    let m : the "time_plan_mode" us ≡ value 256 (take 1 (drop 1 (drop 2 bs))) = mode_byte edition_2 b n (drop 2 bs) o.2 in
+    let g = found n Second b true 48 9 hopping (drop 2 bs) fine_hopping (below_drop 256 2 bs (below_drop 256 p₀ l h)) o.2 in
+    let m : the "time_plan_mode" us ≡ value 256 (take 1 (drop 1 (drop 2 bs))) = mode_byte Second b n (drop 2 bs) o.2 in
     record {
       us = us;
       fs = fs;
@@ -96,7 +97,7 @@ plan_of_lem b l nm p₀ p₂ p₃ gs hs h e d =
       filling = r.1;
       test = leaves_by_lem g.good b v (length fs) ∙ ap (leaves_by b v (length (kept us)) (length fs)) m;
       reads = plan_field b n nm hopping bs ∙ ap (λ (p : Parse (List Field)). and_then p (behind_length (read_filler b n nm))) (e ∙ ap (λ (t : List Field). got t (drop p₂ l)) o.1)
-          ∙ filler_raw b n nm v us (drop p₂ l) ∙ ap (λ (p : Parse (List Field)). and_then p (behind_raw (λ ys rest. cond (leaves b v us (length ys)) (got (planned nm v us ys) rest) (refused 28 (n - length (drop 2 (drop p₂ l))) 0))))
+          ∙ filler_raw b n nm v us (drop p₂ l) ∙ ap (λ (p : Parse (List Field)). and_then p (behind_raw (λ ys rest. cond (leaves b v us (length ys)) (got (planned nm v us ys) rest) (refused PlanLengthMisfit (n - length (drop 2 (drop p₂ l))) 0))))
           (d ∙ ap (λ (t : List Field). got t (drop p₃ l)) r.1);
     }
 
@@ -111,38 +112,44 @@ raw_there {way} {l} {nm = nm} {place} {p = p} w h =
     omega (arith, (grant_got (length l) 2 true bs more (w.reads ∙ pushes_got w.ts (drop p l))).0, length-drop place l)
 
 -- a refusal of the length or of a field within the plan
-pub within_no : {b : Bool} {l out out₀ out₁ out₂ : List ℕ} {s : Syntax} {nm : Name} {place at p₀ a₀ : ℕ} {j : ℕ → Syntax} {f : Refusal} {r : Step}
-    → Came (way_of edition_2 b) l s place at out (plan nm hopping) p₀ a₀ out₀ → r ≡ Refused f
-    → Laid (way_of edition_2 b) l (field unsigned nm 12 (λ _. hopping)) p₀ a₀ out₀ j out₁ r → Taken (way_of edition_2 b) l s place at out out₂ r
-within_no {b} {l} {out} {out₂ = out₂} {s} {nm} {place} {at} {p₀} {f = f} x q y =
-    let h = stopped q y in
-    subst (λ (r : Step). Taken (way_of edition_2 b) l s place at out out₂ r) (sym q)
-    (record { to = record { reads = x.reads ∙ ap (pushes x.ts) (plan_field b (length l) nm hopping (drop p₀ l) ∙ ap (λ (p : Parse (List Field)). and_then p (behind_length (read_filler b (length l) nm))) h.reads) ∙ pushes_refused x.ts f.number f.need f.have } })
+pub within_no : {b : Bool} {l out out₀ out₁ out₂ : List ℕ} {s : Syntax} {nm : Name} {place at p₀ a₀ : ℕ} {j : ℕ → Syntax} {f : Refusal}
+    {r : Result (Step ℕ) Refusal} → Came (way_of Second b) l s place at out (plan nm hopping) p₀ a₀ out₀ → r ≡ Err f
+    → Laid (way_of Second b) l (field unsigned nm 12 (λ _. hopping)) p₀ a₀ out₀ j out₁ (Err f) → Taken (way_of Second b) l s place at out out₂ r
+within_no {b} {l} {nm = nm} {p₀ = p₀} {f = f} x q y =
+    rw q
+    (record {
+      to = record {
+        reads = x.reads
+            ∙ ap (pushes x.ts) (plan_field b (length l) nm hopping (drop p₀ l)
+            ∙ ap (λ (p : Parse (List Field)). and_then p (behind_length (read_filler b (length l) nm))) y.to.reads)
+            ∙ pushes_refused x.ts f.fault f.need f.have;
+      };
+    })
 
 -- a refusal of the filler
-pub filler_no : {b : Bool} {l out out₀ out₁ out₂ out₃ : List ℕ} {s : Syntax} {nm : Name} {place at p₀ a₀ p₂ a₂ : ℕ} {j : ℕ → Syntax} {f : Refusal} {r : Step}
-    → Came (way_of edition_2 b) l s place at out (plan nm hopping) p₀ a₀ out₀ → Came (way_of edition_2 b) l (field unsigned nm 12 (λ _. hopping)) p₀ a₀ out₀ end p₂ a₂ out₁ → r ≡ Refused f
-    → Laid (way_of edition_2 b) l (raw "filler") p₂ a₂ out₁ j out₂ r → Taken (way_of edition_2 b) l s place at out out₃ r
+pub filler_no : {b : Bool} {l out out₀ out₁ out₂ out₃ : List ℕ} {s : Syntax} {nm : Name} {place at p₀ a₀ p₂ a₂ : ℕ} {j : ℕ → Syntax} {f : Refusal}
+    {r : Result (Step ℕ) Refusal} → Came (way_of Second b) l s place at out (plan nm hopping) p₀ a₀ out₀
+    → Came (way_of Second b) l (field unsigned nm 12 (λ _. hopping)) p₀ a₀ out₀ end p₂ a₂ out₁ → r ≡ Err f
+    → Laid (way_of Second b) l (raw "filler") p₂ a₂ out₁ j out₂ (Err f) → Taken (way_of Second b) l s place at out out₃ r
 unfolding read_ledger
-filler_no {b} {l} {out} {out₃ = out₃} {s} {nm} {place} {at} {p₀} {p₂ = p₂} {f = f} x g q y =
+filler_no {b} {l} {nm = nm} {p₀ = p₀} {p₂ = p₂} {f = f} x g q y =
     let n : ℕ = length l in
-    let h = stopped q y in
     let o = field_read b n nm hopping (drop p₀ l) (g.reads ∙ pushes_got g.ts (drop p₂ l)) in
     let v : ℕ = value 256 (take 2 (drop p₀ l)) in
     let e = g.reads ∙ pushes_got g.ts (drop p₂ l) ∙ ap (λ (t : List Field). got t (drop p₂ l)) o.1 in
-    subst (λ (r : Step). Taken (way_of edition_2 b) l s place at out out₃ r) (sym q)
+    rw q
     (record {
       to = record {
         reads = x.reads ∙ ap (pushes x.ts) (plan_field b n nm hopping (drop p₀ l) ∙ ap (λ (p : Parse (List Field)). and_then p (behind_length (read_filler b n nm))) e
-            ∙ filler_raw b n nm v o.0 (drop p₂ l) ∙ ap (λ (p : Parse (List Field)). and_then p (behind_raw (λ ys rest. cond (leaves b v o.0 (length ys)) (got (planned nm v o.0 ys) rest) (refused 28 (n - length (drop 2 (drop p₂ l))) 0)))) h.reads)
-            ∙ pushes_refused x.ts f.number f.need f.have;
+            ∙ filler_raw b n nm v o.0 (drop p₂ l) ∙ ap (λ (p : Parse (List Field)). and_then p (behind_raw (λ ys rest. cond (leaves b v o.0 (length ys)) (got (planned nm v o.0 ys) rest) (refused PlanLengthMisfit (n - length (drop 2 (drop p₂ l))) 0)))) y.to.reads)
+            ∙ pushes_refused x.ts f.fault f.need f.have;
       };
     })
 
 module _ {b : Bool} {l : List ℕ} {s : Syntax} {nm : Name} {place at p₀ a₀ p₂ a₂ p₃ a₃ : ℕ} {out out₀ out₂ out₃ : List ℕ} (h : Below 256 l)
-    (x : Came (way_of edition_2 b) l s place at out (plan nm hopping) p₀ a₀ out₀)
-    (g : Came (way_of edition_2 b) l (field unsigned nm 12 (λ _. hopping)) p₀ a₀ out₀ end p₂ a₂ out₂)
-    (f : Came (way_of edition_2 b) l (raw "filler") p₂ a₂ out₂ end p₃ a₃ out₃) where
+    (x : Came (way_of Second b) l s place at out (plan nm hopping) p₀ a₀ out₀)
+    (g : Came (way_of Second b) l (field unsigned nm 12 (λ _. hopping)) p₀ a₀ out₀ end p₂ a₂ out₂)
+    (f : Came (way_of Second b) l (raw "filler") p₂ a₂ out₂ end p₃ a₃ out₃) where
   -- the length, the mode, and the numbers that the test goes by
   abbrev v : ℕ
   v = value 256 (take 2 (drop p₀ l))
@@ -156,8 +163,8 @@ module _ {b : Bool} {l : List ℕ} {s : Syntax} {nm : Name} {place at p₀ a₀ 
 
   sizes : (a₂ ≡ a₀ + (12 + length (kept read.us))) × (a₃ ≡ a₂ + length read.fs)
   sizes = (
-    g.size ∙ ap (λ (t : List Field). a₀ + length (kept t)) read.fields ∙ ap (λ (j : ℕ). a₀ + j) (laid_num edition_2 unsigned nm 12 v read.us),
-    f.size ∙ ap (λ (t : List Field). a₂ + length (kept t)) read.filling ∙ ap (λ (j : ℕ). a₂ + j) (laid_bytes edition_2 "filler" read.fs [] ∙ omega (arith, laid_nil edition_2)),
+    g.size ∙ ap (λ (t : List Field). a₀ + length (kept t)) read.fields ∙ ap (λ (j : ℕ). a₀ + j) (laid_num Second unsigned nm 12 v read.us),
+    f.size ∙ ap (λ (t : List Field). a₂ + length (kept t)) read.filling ∙ ap (λ (j : ℕ). a₂ + j) (laid_bytes Second "filler" read.fs [] ∙ omega (arith, laid_nil Second)),
   )
 
   decides : leaves b v read.us (length read.fs) ≡ stands
@@ -167,13 +174,13 @@ module _ {b : Bool} {l : List ℕ} {s : Syntax} {nm : Name} {place at p₀ a₀ 
       read.test ∙ ap (λ (z : ℕ). leaves_by b v z (length read.fs) (value 256 (take 1 (drop 1 (drop 2 (drop p₀ l)))))) k
       ∙ ap (λ (z : ℕ). leaves_by b v (a₂ - (a₀ + 12)) z (value 256 (take 1 (drop 1 (drop 2 (drop p₀ l)))))) j
 
-  pub kept_no : p₂ + 2 ≤ length l → stands ≡ false → Halted (way_of edition_2 b) l s place (refuse 28 (p₂ + 2) 0)
+  pub kept_no : p₂ + 2 ≤ length l → stands ≡ false → Halted (way_of Second b) l s place (refuse PlanLengthMisfit (p₂ + 2) 0)
   kept_no m q =
       let z : length l - length (drop 2 (drop p₂ l)) ≡ p₂ + 2 = omega (arith, length-drop 2 (drop p₂ l), length-drop p₂ l) in
-      let r : read_ledger edition_2 b (length l) (plan nm hopping) (drop p₀ l) ≡ refused 28 (p₂ + 2) 0 = read.reads ∙ rw (decides, q, z) in
-      record { reads = x.reads ∙ ap (pushes x.ts) r ∙ pushes_refused x.ts 28 (p₂ + 2) 0 }
+      let r : read_ledger Second b (length l) (plan nm hopping) (drop p₀ l) ≡ refused PlanLengthMisfit (p₂ + 2) 0 = read.reads ∙ rw (decides, q, z) in
+      record { reads = x.reads ∙ ap (pushes x.ts) r ∙ pushes_refused x.ts PlanLengthMisfit (p₂ + 2) 0 }
 
-  pub kept_yes : stands ≡ true → Took (way_of edition_2 b) l s place at out p₃ a₃ out₃
+  pub kept_yes : stands ≡ true → Took (way_of Second b) l s place at out p₃ a₃ out₃
   unfolding laid
   kept_yes q =
       let us : List Field = read.us in
@@ -191,7 +198,7 @@ module _ {b : Bool} {l : List ℕ} {s : Syntax} {nm : Name} {place at p₀ a₀ 
       let zx = x.size in
       let zg = g.size in
       let zf = f.size in
-      let r : read_ledger edition_2 b (length l) (plan nm hopping) (drop p₀ l) ≡ got ts (drop p₃ l) = read.reads ∙ rw (decides, q) in
+      let r : read_ledger Second b (length l) (plan nm hopping) (drop p₀ l) ≡ got ts (drop p₃ l) = read.reads ∙ rw (decides, q) in
       record {
         ts = x.ts ++ ts;
         reads = x.reads ∙ ap (pushes x.ts) r ∙ pushes_more x.ts ts (drop p₃ l);

@@ -1,25 +1,25 @@
 -- A plan laid; in the first edition its length in front of the fields that it counts.
 -- Assumes nothing.
 use Prim.Native.Nat.{ℕ, ◌+◌, ◌-◌, ◌*◌, ◌/◌, ◌≤◌}
-use mathlib.Core.Path.{◌≡◌, sym, ap, ◌∙◌, subst}
+use mathlib.Core.Path.{◌≡◌, sym, ap, ◌∙◌}
 use mathlib.Core.Bool.{Bool}
 use mathlib.Core.List.{List, [], ◌∷◌, ◌++◌, append-nil}
 use native.Mathlib.Omega.{arith}
 use lib.ListN.{length, drop, length-append}
+use Rattle.std.specs.Prelude.{Result, Ok, Err}
 use Rattle.format.specs.Digits.{digits, bits_of, splice}
-use Rattle.format.specs.Syntax.{Name, Syntax, end, plan, Field, filler, edition_1, Parse, got, and_then}
+use Rattle.format.specs.Syntax.{Name, Syntax, end, plan, Field, filler, Parse, got, and_then}
+use Rattle.format.specs.declared.Edition.TheVariants.{First}
 use Rattle.format.specs.Body.{planned, laid, plain}
 use Rattle.format.specs.Ledger.{read_ledger}
 use Rattle.format.specs.declared.Refusal.{Refusal}
 use Rattle.format.proofs.DigitLaws.{length_digits, length_bits}
 use Rattle.bits.proofs.Splices.{splice_front, splice_splice}
-use Rattle.read_runs.specs.declared.Step.{Step}
-use Rattle.read_runs.specs.declared.Step.TheVariants.{Done, Refused}
+use Rattle.runs.specs.declared.Step.{Step}
 use Rattle.write_runs.specs.Went.{pushes}
 use Rattle.write_runs.proofs.WentLaws.{pushes_append, pushes_refused, pushes_got}
-use Rattle.read_runs.specs.Came.{Way, way_of, Came, Halted, Laid}
-use Rattle.read_runs.proofs.CameLaws.{stopped}
-use Rattle.read_plans.specs.Taken.{Took, Taken, SparedTo, Spared}
+use Rattle.read_runs.specs.Came.{Way, way_of, Came, Laid}
+use Rattle.read_plans.specs.Taken.{Took, Taken, Spared}
 
 -- ---- entries
 
@@ -28,32 +28,37 @@ pushes_more xs ys rest = ap (pushes xs) (sym (pushes_got ys rest)) ∙ sym (push
 
 module _ {way : Way} {l : List ℕ} where
   -- an entry without a plan's length
-  pub as_taken : {place at : ℕ} {s : Syntax} {out out' : List ℕ} {r : Step} → Laid way l s place at out (λ _. end) out' r → Taken way l s place at out out' r
+  pub as_taken : {place at : ℕ} {s : Syntax} {out out' : List ℕ} {r : Result (Step ℕ) Refusal} → Laid way l s place at out (λ _. end) out' r → Taken way l s place at out out' r
   unfolding read_ledger
-  as_taken {r = Done a p v} x =
-      let w = x.to in
-      record { to = record { ts = w.ts; reads = w.reads ∙ pushes_got w.ts (drop p l); size = w.size; bits = w.bits; long = w.long; within = w.within; slack = w.slack } }
-  as_taken {r = Refused f} x = record { to = x.to }
+  as_taken {r = Ok x} y =
+      let w = y.to in
+      record { to = record { ts = w.ts; reads = w.reads ∙ pushes_got w.ts (drop x.place l); size = w.size; bits = w.bits; long = w.long; within = w.within; slack = w.slack } }
+  as_taken {r = Err f} y = record { to = y.to }
 
-  pub taken_no : {place at : ℕ} {s : Syntax} {out out₁ out₂ : List ℕ} {k : ℕ → Syntax} {f : Refusal} {r : Step} → r ≡ Refused f
-      → Laid way l s place at out k out₁ r → Taken way l s place at out out₂ r
-  taken_no {r = Done a p v} q x = let o : ◌≡◌ {A = ℕ} 0 1 = cc in absurd (omega arith)
-  taken_no {r = Refused g} q x = record { to = x.to }
+  pub taken_no : {place at : ℕ} {s : Syntax} {out out₁ out₂ : List ℕ} {k : ℕ → Syntax} {f : Refusal} {r : Result (Step ℕ) Refusal} → r ≡ Err f
+      → Laid way l s place at out k out₁ (Err f) → Taken way l s place at out out₂ r
+  taken_no q y = rw q (record { to = y.to })
 
 -- ---- the first edition: the length is stored in front of the fields that it counts
 
-module _ {b : Bool} {l : List ℕ} {s k : Syntax} {nm : Name} {place at place₁ at₁ : ℕ} {out out₁ : List ℕ} (x : Came (way_of edition_1 b) l s place at out (plan nm k) place₁ at₁ out₁) where
+module _ {b : Bool} {l : List ℕ} {s k : Syntax} {nm : Name} {place at place₁ at₁ : ℕ} {out out₁ : List ℕ} (x : Came (way_of First b) l s place at out (plan nm k) place₁ at₁ out₁) where
   -- a refusal within a plan
-  pub plan_no : {at₂ : ℕ} {out₂ out₃ : List ℕ} {j : ℕ → Syntax} {f : Refusal} {r : Step} → r ≡ Refused f → Laid (way_of edition_1 b) l k place₁ at₂ out₁ j out₂ r → Taken (way_of edition_1 b) l s place at out out₃ r
+  pub plan_no : {at₂ : ℕ} {out₂ out₃ : List ℕ} {j : ℕ → Syntax} {f : Refusal} {r : Result (Step ℕ) Refusal} → r ≡ Err f
+      → Laid (way_of First b) l k place₁ at₂ out₁ j out₂ (Err f) → Taken (way_of First b) l s place at out out₃ r
   unfolding read_ledger
-  plan_no {out₃ = out₃} {f = f} q y =
-      let h : Halted (way_of edition_1 b) l k place₁ f = stopped q y in
-      subst (λ (r : Step). Taken (way_of edition_1 b) l s place at out out₃ r) (sym q)
-      (record { to = record { reads = x.reads ∙ ap (λ (a : Parse (List Field)). pushes x.ts (and_then a (λ ts rest. got (planned nm (length (plain ts) / 8) ts []) rest))) h.reads ∙ pushes_refused x.ts f.number f.need f.have } })
+  plan_no {f = f} q y =
+      rw q
+      (record {
+        to = record {
+          reads = x.reads
+              ∙ ap (λ (a : Parse (List Field)). pushes x.ts (and_then a (λ ts rest. got (planned nm (length (plain ts) / 8) ts []) rest))) y.to.reads
+              ∙ pushes_refused x.ts f.fault f.need f.have;
+        };
+      })
 
-  pub plan_took : {place₂ at₂ : ℕ} {out₂ out₃ : List ℕ} (w : Came (way_of edition_1 b) l k place₁ (at₁ + 12) out₁ end place₂ at₂ out₂)
+  pub plan_took : {place₂ at₂ : ℕ} {out₂ out₃ : List ℕ} (w : Came (way_of First b) l k place₁ (at₁ + 12) out₁ end place₂ at₂ out₂)
       → (at₁ + 12 ≤ 8 * length out₂ → bits_of out₃ ≡ splice (bits_of out₂) at₁ (digits 2 12 ((at₂ - (at₁ + 12)) / 8))) → length out₃ ≡ length out₂
-      → at₂ + 8 * place ≤ at + 8 * place₂ → Took (way_of edition_1 b) l s place at out place₂ at₂ out₃
+      → at₂ + 8 * place ≤ at + 8 * place₂ → Took (way_of First b) l s place at out place₂ at₂ out₃
   unfolding read_ledger laid
   plan_took {place₂} {at₂} {out₂} {out₃} w g long slack =
       let a = plain x.ts in
@@ -86,13 +91,7 @@ module _ {b : Bool} {l : List ℕ} {s k : Syntax} {nm : Name} {place at place₁
 
 -- ---- what the fields within a plan spare
 
-pub spared : {way : Way} {l out out' : List ℕ} {s : Syntax} {k : ℕ → Syntax} {place at place₁ at₁ : ℕ} {r : Step} → at₁ + 8 * place + 8 ≤ at + 8 * place₁
+pub spared : {way : Way} {l out out' : List ℕ} {s : Syntax} {k : ℕ → Syntax} {place at place₁ at₁ : ℕ} {r : Result (Step ℕ) Refusal} → at₁ + 8 * place + 8 ≤ at + 8 * place₁
     → Laid way l s place₁ at₁ out k out' r → Spared place at r
-spared {r = Done a p v} h x = record { to = omega (arith, x.to.slack) }
-spared {r = Refused f} h x = record { to = tt }
-
-pub spared_no : {place at : ℕ} {f : Refusal} {r : Step} → r ≡ Refused f → Spared place at r
-spared_no {place} {at} q = subst (λ (r : Step). Spared place at r) (sym q) (record { to = tt })
-
-pub spared_done : {place at a p v : ℕ} {r : Step} → r ≡ Done a p v → Spared place at r → a + 8 * place + 8 ≤ at + 8 * p
-spared_done {place} {at} q x = subst (λ (r : Step). SparedTo place at r) q x.to
+spared {r = Ok x} h y = record { to = omega (arith, y.to.slack) }
+spared {r = Err f} h y = record { to = tt }

@@ -4,16 +4,16 @@
 ghost use Rattle.std.specs.Prelude.{◌≡◌, ◌+◌, ◌*◌, ◌≤◌, ◌<◌, length};
 ghost use Rattle.format.specs.Digits.{bits_of};
 ghost use Rattle.format.specs.Syntax.{Name, Syntax, end, slots, raw};
-ghost use Rattle.format.specs.Whole.{edition_for};
+ghost use Rattle.format.specs.declared.Fault.TheVariants.{SlotsCut};
 ghost use Rattle.format.specs.Tables.{bitmap, mode, hopping, beamhopping};
 ghost use Rattle.runs.specs.Stored.{stored};
 ghost use Rattle.read_runs.specs.Came.{LedgerPlaced, Way, way_of, Laid};
 ghost use Rattle.read_plans.specs.Taken.{Taken, Spared, Opened, Closed, leaves_by};
 
 use bits::{get_be, value_at};
-use format::Refusal;
-use read_runs::{Step, lay, read_run};
-use runs::{copy_bytes, marks};
+use format::{Edition, Fault, Refusal};
+use read_runs::{lay, read_run, refused_at};
+use runs::{Step, copy_bytes, marks};
 
 // Stores bytes at a bit place where there is room for them, and else leaves the buffer as it is; at a byte place they
 // are copied.
@@ -28,132 +28,110 @@ fn lay_bytes(bytes: &[u8], out: &mut [u8], at: usize)
         copy_bytes(bytes, &mut out[at / 8..]);
         return;
     }
-    let mut i: usize = 0;
-    while i < bytes.len() {
+    for i in 0..bytes.len() {
         lay(out, at + 8 * i, 8, bytes[i] as u64);
-        i += 1;
     }
 }
 
 // Slots: so many single bits in bytes that are laid as they are, once the bits behind the slots are known to be zero.
-fn read_slots(ledger: &[u8], place: usize, m: usize, out: &mut [u8], at: usize) -> Step
+fn read_slots(
+    ledger: &[u8],
+    place: usize,
+    m: usize,
+    out: &mut [u8],
+    at: usize,
+) -> Result<Step<usize>, Refusal>
     requires ledger_placed { LedgerPlaced ledger.now place at }
     requires m_bound { m < 32768 }
-    ensures { (way : Way) (nm : Name) (s : Syntax) → Laid way ledger.now (slots nm 12 m s) place at out.old (λ _. s) out.new result }
+    ensures { (way : Way) (nm : Name) (s : Syntax) → Laid way ledger.now (slots nm SlotsCut m s) place at out.old (λ _. s) out.new result }
 {
     let whole = (m + 7) / 8;
     if ledger.len() - place < whole {
-        return Step::Refused(Refusal {
-            number: 23,
-            need: place,
-            have: 0,
-        });
+        return Err(refused_at(Fault::LedgerMisfit, place));
     }
     let end = place + whole;
     let packed = &ledger[place..end];
     if value_at(packed, m as u16, 8 * whole - m) != 0 {
-        return Step::Refused(Refusal {
-            number: 25,
-            need: place,
-            have: 0,
-        });
+        return Err(refused_at(Fault::ValueMisfit, place));
     }
     lay_bytes(packed, out, at);
-    Step::Done {
+    Ok(Step {
         at: at + 8 * whole,
         place: end,
         last: 0,
-    }
+    })
 }
 
 // Raw bytes or filler, behind their 2-byte count.
-fn read_raw(ledger: &[u8], place: usize, out: &mut [u8], at: usize) -> Step
+fn read_raw(ledger: &[u8], place: usize, out: &mut [u8], at: usize) -> Result<Step<usize>, Refusal>
     requires { LedgerPlaced ledger.now place at }
     ensures { (way : Way) (nm : Name) → Laid way ledger.now (raw nm) place at out.old (λ _. end) out.new result }
 {
     if ledger.len() - place < 2 {
-        return Step::Refused(Refusal {
-            number: 23,
-            need: place,
-            have: 0,
-        });
+        return Err(refused_at(Fault::LedgerMisfit, place));
     }
     let count = get_be(ledger, place, 2) as usize;
     let start = place + 2;
     if ledger.len() - start < count {
-        return Step::Refused(Refusal {
-            number: 23,
-            need: start,
-            have: 0,
-        });
+        return Err(refused_at(Fault::LedgerMisfit, start));
     }
     let end = start + count;
     lay_bytes(&ledger[start..end], out, at);
-    Step::Done {
+    Ok(Step {
         at: at + 8 * count,
         place: end,
         last: 0,
-    }
+    })
 }
 
 // Mode 1: a map of slots.
-fn read_bitmap(ledger: &[u8], place: usize, out: &mut [u8], at: usize) -> Step
+fn read_bitmap(
+    ledger: &[u8],
+    place: usize,
+    out: &mut [u8],
+    at: usize,
+) -> Result<Step<usize>, Refusal>
     requires { LedgerPlaced ledger.now place at }
     ensures { (way : Way) → Laid way ledger.now bitmap place at out.old (λ _. end) out.new result }
 {
-    let size = read_run(ledger, place, &marks::SLOT, out, at);
-    let Step::Done {
-        at,
-        place,
-        last: slots,
-    } = size
-    else {
-        return size;
-    };
-    let current = read_run(ledger, place, &marks::SLOT, out, at);
-    let Step::Done { at, place, .. } = current else {
-        return current;
-    };
-    read_slots(ledger, place, slots as usize, out, at)
+    let size = read_run(ledger, place, &marks::SLOT, out, at)?;
+    let current = read_run(ledger, size.place, &marks::SLOT, out, size.at)?;
+    read_slots(ledger, current.place, size.last as usize, out, current.at)
 }
 
 // The fields of a plan's mode, by its number.
-fn read_mode(ledger: &[u8], place: usize, kind: u64, out: &mut [u8], at: usize) -> Step
+fn read_mode(
+    ledger: &[u8],
+    place: usize,
+    kind: u64,
+    out: &mut [u8],
+    at: usize,
+) -> Result<Step<usize>, Refusal>
     requires { LedgerPlaced ledger.now place at }
     ensures { (way : Way) → Laid way ledger.now (mode kind) place at out.old (λ _. end) out.new result }
 {
-    if kind == 0 {
-        return read_run(ledger, place, &marks::CLOCKS, out, at);
+    match kind {
+        0 => read_run(ledger, place, &marks::CLOCKS, out, at),
+        1 => read_bitmap(ledger, place, out, at),
+        2 => read_run(ledger, place, &marks::GRID, out, at),
+        _ => read_raw(ledger, place, out, at),
     }
-    if kind == 1 {
-        return read_bitmap(ledger, place, out, at);
-    }
-    if kind == 2 {
-        return read_run(ledger, place, &marks::GRID, out, at);
-    }
-    read_raw(ledger, place, out, at)
 }
 
 // What a plan's length counts.
-fn read_hopping(ledger: &[u8], place: usize, out: &mut [u8], at: usize) -> Step
+fn read_hopping(
+    ledger: &[u8],
+    place: usize,
+    out: &mut [u8],
+    at: usize,
+) -> Result<Step<usize>, Refusal>
     requires { LedgerPlaced ledger.now place at }
     ensures laid { (way : Way) → Laid way ledger.now hopping place at out.old (λ _. end) out.new result }
     ensures spared { Spared place at result }
 {
-    let head = read_run(ledger, place, &marks::MODE, out, at);
-    let Step::Done {
-        at,
-        place,
-        last: kind,
-    } = head
-    else {
-        return head;
-    };
-    let clocks = read_run(ledger, place, &marks::CLOCKS, out, at);
-    let Step::Done { at, place, .. } = clocks else {
-        return clocks;
-    };
-    read_mode(ledger, place, kind, out, at)
+    let head = read_run(ledger, place, &marks::MODE, out, at)?;
+    let clocks = read_run(ledger, head.place, &marks::CLOCKS, out, head.at)?;
+    read_mode(ledger, clocks.place, head.last, out, clocks.at)
 }
 
 // Whether a plan of so many bytes leaves fields and filler of so many bits, by its mode; last: it may end past the
@@ -164,109 +142,76 @@ fn leaves_by(last: bool, length: usize, fields: usize, filler: usize, mode: u64)
 {
     let there = fields + filler;
     if there == 8 * length {
-        if mode == 3 {
-            return filler == 0;
-        }
-        return true;
+        return mode != 3 || filler == 0;
     }
-    if !last {
-        return false;
-    }
-    if there < 8 * length {
-        if mode == 3 {
-            return fields == 104;
-        }
-        return true;
-    }
-    false
+    last && there < 8 * length && (mode != 3 || fields == 104)
 }
 
 // A plan's length. The second edition has it as a field; in the first its bits stay open until the fields are laid.
-fn read_length(version: u8, ledger: &[u8], place: usize, out: &mut [u8], at: usize) -> Step
+fn read_length(
+    edition: Edition,
+    ledger: &[u8],
+    place: usize,
+    out: &mut [u8],
+    at: usize,
+) -> Result<Step<usize>, Refusal>
     requires { LedgerPlaced ledger.now place at }
-    ensures { Opened (edition_for version) ledger.now place at out.old out.new result }
+    ensures { Opened edition ledger.now place at out.old out.new result }
 {
-    if version == 2 {
-        return read_run(ledger, place, &marks::PLAN_LENGTH, out, at);
-    }
-    Step::Done {
-        at: at + 12,
-        place,
-        last: 0,
+    match edition {
+        Edition::First => Ok(Step {
+            at: at + 12,
+            place,
+            last: 0,
+        }),
+        Edition::Second => read_run(ledger, place, &marks::PLAN_LENGTH, out, at),
     }
 }
 
-// The filler of a plan, and the test of its length, its raw bytes and the filler; `length_place` and `length_at` are
-// the places of its length in the ledger and in the body.
+// The filler of a plan, and the test of its length, its raw bytes and the filler; `start` is the step that came to the
+// plan's length.
 fn read_filler(
     ledger: &[u8],
-    length_place: usize,
-    length_at: usize,
+    start: Step<usize>,
     place: usize,
     last: bool,
     out: &mut [u8],
     at: usize,
-) -> Step
+) -> Result<Step<usize>, Refusal>
     requires ledger_placed { LedgerPlaced ledger.now place at }
-    requires length_at_bound { (length_at + 12 ≤ at) × (length_place + 3 ≤ place) }
-    ensures { Closed last ledger.now length_place length_at place at out.old out.new result }
+    requires start_bound { (start.at + 12 ≤ at) × (start.place + 3 ≤ place) }
+    ensures { Closed last ledger.now start.place start.at place at out.old out.new result }
 {
-    let filler = read_raw(ledger, place, out, at);
-    let Step::Done {
-        at: a,
-        place: p,
-        ..
-    } = filler
-    else {
-        return filler;
-    };
-    let length = get_be(ledger, length_place, 2) as usize;
-    let mode = get_be(ledger, length_place + 3, 1);
-    if leaves_by(last, length, at - (length_at + 12), a - at, mode) {
-        return Step::Done {
-            at: a,
-            place: p,
-            last: 0,
-        };
+    let filler = read_raw(ledger, place, out, at)?;
+    let length = get_be(ledger, start.place, 2) as usize;
+    let mode = get_be(ledger, start.place + 3, 1);
+    if leaves_by(last, length, at - (start.at + 12), filler.at - at, mode) {
+        return Ok(filler);
     }
-    Step::Refused(Refusal {
-        number: 28,
-        need: place + 2,
-        have: 0,
-    })
+    Err(refused_at(Fault::PlanLengthMisfit, place + 2))
 }
 
-// A plan, in the edition of a version; last: none follows it, so that it may end past the data. In the first edition
-// the length is not in the ledger, and is stored once the fields that it counts are laid.
+// A plan, in an edition; last: none follows it, so that it may end past the data. In the first edition the length is
+// not in the ledger, and is stored once the fields that it counts are laid.
 pub fn read_plan(
     ledger: &[u8],
     place: usize,
-    version: u8,
+    edition: Edition,
     last: bool,
     out: &mut [u8],
     at: usize,
-) -> Step
+) -> Result<Step<usize>, Refusal>
     requires { LedgerPlaced ledger.now place (at + 8) }
-    ensures { Taken (way_of (edition_for version) last) ledger.now beamhopping place at out.old out.new result }
+    ensures { Taken (way_of edition last) ledger.now beamhopping place at out.old out.new result }
 {
-    let head = read_run(ledger, place, &marks::PLAN, out, at);
-    let Step::Done { at, place, .. } = head else {
-        return head;
-    };
-    let length_at = at;
-    let length_place = place;
-    let length = read_length(version, ledger, place, out, at);
-    let Step::Done { at, place, .. } = length else {
-        return length;
-    };
-    let inside = at;
-    let hopping = read_hopping(ledger, place, out, at);
-    let Step::Done { at, place, .. } = hopping else {
-        return hopping;
-    };
-    if version == 2 {
-        return read_filler(ledger, length_place, length_at, place, last, out, at);
+    let head = read_run(ledger, place, &marks::PLAN, out, at)?;
+    let length = read_length(edition, ledger, head.place, out, head.at)?;
+    let hopping = read_hopping(ledger, length.place, out, length.at)?;
+    match edition {
+        Edition::First => {
+            lay(out, head.at, 12, ((hopping.at - length.at) / 8) as u64);
+            Ok(hopping)
+        }
+        Edition::Second => read_filler(ledger, head, hopping.place, last, out, hopping.at),
     }
-    lay(out, length_at, 12, ((at - inside) / 8) as u64);
-    Step::Done { at, place, last: 0 }
 }

@@ -8,8 +8,10 @@ use native.Mathlib.Omega.{arith}
 use lib.Dec.{eqb}
 use lib.ListN.{length, take, drop, length-drop}
 use lib.Seq.{drop-drop}
+use Rattle.std.specs.Prelude.{Ok}
 use Rattle.format.specs.Digits.{Below, value}
-use Rattle.format.specs.Syntax.{Name, Syntax, end, Field, num, Edition, Parse, got, push}
+use Rattle.format.specs.Syntax.{Name, Syntax, end, Field, num, Parse, got, push}
+use Rattle.format.specs.declared.Edition.{Edition}
 use Rattle.format.specs.Body.{laid, kept}
 use Rattle.format.specs.Ledger.{widened, read_ledger}
 use Rattle.format.proofs.DigitLaws.{below_drop}
@@ -18,11 +20,10 @@ use Rattle.format.proofs.Good.{Fine, fine_before, whole, laid_nil, laid_num}
 use Rattle.format.proofs.Forms.{kept_form}
 use Rattle.format.proofs.LedgerLaws.{found}
 use Rattle.runs.specs.Lines.{sign_of, width_of, size_of, tested, run, widths_of, sizes_of, head_name, tail_names}
-use Rattle.read_runs.specs.declared.Step.{Step}
-use Rattle.read_runs.specs.declared.Step.TheVariants.{Done}
+use Rattle.runs.specs.declared.Step.{Step}
 use Rattle.write_runs.proofs.WentLaws.{pushes_got}
 use Rattle.read_runs.specs.Came.{Way, some_way, Came, Laid}
-use Rattle.read_runs.proofs.CameLaws.{test_passed, done}
+use Rattle.read_runs.proofs.CameLaws.{test_passed}
 
 -- ---- how far a run goes
 
@@ -48,11 +49,13 @@ run_got ed last n nms v (c ∷ cs) bs {ts} {rest} q =
       r.2 ∙ drop-drop (sizes_of cs) z bs,
     )
 
-pub run_moved : (marks : List ℕ) {l out out' : List ℕ} {place at a p v : ℕ} {r : Step} → r ≡ Done a p v → place ≤ length l
-    → ((way : Way) (nms : List Name) (k : ℕ → Syntax) → Laid way l (run nms 0 marks k) place at out k out' r) → (a ≡ at + widths_of marks) × (p ≡ place + sizes_of marks)
+pub run_moved : (marks : List ℕ) {l out out' : List ℕ} {place at : ℕ} {x : Step ℕ} → place ≤ length l
+    → ((way : Way) (nms : List Name) (k : ℕ → Syntax) → Laid way l (run nms 0 marks k) place at out k out' (Ok x))
+    → (x.at ≡ at + widths_of marks) × (x.place ≡ place + sizes_of marks)
 unfolding read_ledger
-run_moved marks {l} {out} {out'} {place} {at} {a} {p} q h y =
-    let w : Came some_way l (run [] 0 marks (λ _. end)) place at out end p a out' = done q (y some_way [] (λ _. end)) in
+run_moved marks {l} {out} {out'} {place} {at} {x} h y =
+    let p : ℕ = x.place in
+    let w : Came some_way l (run [] 0 marks (λ _. end)) place at out end p x.at out' = (y some_way [] (λ _. end)).to in
     let g = run_got some_way.edition some_way.last (length l) [] 0 marks (drop place l) (w.reads ∙ pushes_got w.ts (drop p l)) in (
       omega (arith, w.size, g.0),
       omega (arith, g.1, ap length g.2, w.within, length-drop p l, length-drop place l, length-drop (sizes_of marks) (drop place l)),

@@ -4,41 +4,26 @@
 
 ghost use Rattle.std.specs.Prelude.{◌≡◌, List, ℕ, ◌-◌, ◌/◌, ◌^◌, ◌≤◌, ◌<◌, T, length, get_or};
 ghost use Rattle.format.specs.Digits.{digits, bits_of};
+ghost use Rattle.format.specs.Refusals.{refuse};
 ghost use Rattle.format.specs.Syntax.{Name, Syntax};
 ghost use Rattle.format.specs.Tables.{times};
 ghost use Rattle.runs.specs.Lines.{width_of, mark_ok, marks_ok, line, run, run_of};
+ghost use Rattle.runs.specs.Steps.{last_of};
 ghost use Rattle.runs.specs.Stored.{stored};
 ghost use Rattle.read_runs.specs.Came.{LedgerPlaced, Way, Laid};
-ghost use Rattle.read_runs.specs.Steps.{refusal_in, last_of};
 
 use bits::{get_be, write_u};
-use format::Refusal;
-use runs::{low_of, shown_of, size_of, width_of};
-use write_runs::within;
+use format::{Fault, Refusal};
+use runs::{Step, low_of, shown_of, size_of, width_of};
 
-// Where a step came to: its place in the body that is laid, in bits, its place in the ledger, and the last field's
-// number; or a refusal. A long ledger lays more than 65,535 bits before it is refused by 26, so the place is wide.
-#[derive(Clone, Copy)]
-pub enum Step {
-    Done { at: usize, place: usize, last: u64 },
-    Refused(Refusal),
-}
-
-// The refusal of a step; zeros where there is none.
-pub fn step_refusal(step: Step) -> Refusal
-    ensures { result ≡ refusal_in step }
+// A refusal at a place of the ledger.
+pub fn refused_at(fault: Fault, place: usize) -> Refusal
+    ensures { result ≡ refuse fault place 0 }
 {
-    match step {
-        Step::Done {
-            at: _,
-            place: _,
-            last: _,
-        } => Refusal {
-            number: 0,
-            need: 0,
-            have: 0,
-        },
-        Step::Refused(f) => f,
+    Refusal {
+        fault,
+        need: place,
+        have: 0,
     }
 }
 
@@ -56,72 +41,62 @@ pub fn lay(out: &mut [u8], at: usize, width: usize, v: u64)
 pub fn byte_of(at: usize, n: usize) -> usize
     ensures { (result ≤ n) × (at / 8 ≤ n → result ≡ at / 8) }
 {
-    within(at / 8, n)
+    (at / 8).min(n)
 }
 
 // One field.
-fn read_line(ledger: &[u8], place: usize, mark: u8, out: &mut [u8], at: usize) -> Step
+fn read_line(
+    ledger: &[u8],
+    place: usize,
+    mark: u8,
+    out: &mut [u8],
+    at: usize,
+) -> Result<Step<usize>, Refusal>
     requires ledger_placed { LedgerPlaced ledger.now place at }
-    requires t { T (mark_ok mark) }
+    requires valid { T (mark_ok mark) }
     ensures laid { (way : Way) (nm : Name) (k : ℕ → Syntax) → Laid way ledger.now (line nm mark k) place at out.old k out.new result }
     ensures result_bound { last_of result < 2 ^ width_of mark }
 {
     let size = size_of(mark);
     if ledger.len() - place < size {
-        return Step::Refused(Refusal {
-            number: 23,
-            need: place,
-            have: 0,
-        });
+        return Err(refused_at(Fault::LedgerMisfit, place));
     }
     let x = get_be(ledger, place, size);
     let v = low_of(mark, x);
     if shown_of(mark, v) != x {
-        return Step::Refused(Refusal {
-            number: 25,
-            need: place,
-            have: 0,
-        });
+        return Err(refused_at(Fault::ValueMisfit, place));
     }
     let width = width_of(mark);
-    let step = Step::Done {
+    let step = Step {
         at: at + width,
         place: place + size,
         last: v,
     };
     if out.len() == 0 {
-        return step;
+        return Ok(step);
     }
     lay(out, at, width, v);
-    step
+    Ok(step)
 }
 
 // A run of fields.
-pub fn read_run(ledger: &[u8], place: usize, marks: &[u8], out: &mut [u8], at: usize) -> Step
+pub fn read_run(
+    ledger: &[u8],
+    place: usize,
+    marks: &[u8],
+    out: &mut [u8],
+    at: usize,
+) -> Result<Step<usize>, Refusal>
     requires ledger_placed { LedgerPlaced ledger.now place at }
-    requires t { T (marks_ok marks.now) }
+    requires valid { T (marks_ok marks.now) }
     ensures laid { (way : Way) (nms : List Name) (k : ℕ → Syntax) → Laid way ledger.now (run nms 0 marks.now k) place at out.old k out.new result }
     ensures result_bound { last_of result < 2 ^ width_of (get_or marks.now (length marks.now - 1) 0) }
 {
-    let mut here = at;
-    let mut there = place;
-    let mut value: u64 = 0;
-    let mut i = 0;
-    while i < marks.len() {
-        let step = read_line(ledger, there, marks[i], out, here);
-        let Step::Done { at, place, last } = step else {
-            return step;
-        };
-        here = at;
-        there = place;
-        value = last;
-        i += 1;
+    let mut step = Step { at, place, last: 0 };
+    for &mark in marks {
+        step = read_line(ledger, step.place, mark, out, step.at)?;
     }
-    Step::Done {
-        at: here,
-        place: there,
-        last: value,
-    }
+    Ok(step)
 }
 
 // The same run count times.
@@ -132,26 +107,14 @@ pub fn read_counted(
     count: u64,
     out: &mut [u8],
     at: usize,
-) -> Step
+) -> Result<Step<usize>, Refusal>
     requires ledger_placed { LedgerPlaced ledger.now place at }
-    requires t { T (marks_ok marks.now) }
+    requires valid { T (marks_ok marks.now) }
     ensures { (way : Way) (nms : List Name) (s : Syntax) → Laid way ledger.now (times count (run_of nms marks.now) s) place at out.old (λ _. s) out.new result }
 {
-    let mut here = at;
-    let mut there = place;
-    let mut i: u64 = 0;
-    while i < count {
-        let step = read_run(ledger, there, marks, out, here);
-        let Step::Done { at, place, .. } = step else {
-            return step;
-        };
-        here = at;
-        there = place;
-        i += 1;
+    let mut step = Step { at, place, last: 0 };
+    for _ in 0..count {
+        step = read_run(ledger, step.place, marks, out, step.at)?;
     }
-    Step::Done {
-        at: here,
-        place: there,
-        last: 0,
-    }
+    Ok(step)
 }

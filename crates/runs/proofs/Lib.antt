@@ -1,4 +1,3 @@
 pub mod MarkLaws
 pub mod Names
-pub mod Copies
 pub mod Stores

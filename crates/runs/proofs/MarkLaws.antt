@@ -1,10 +1,11 @@
 -- What a field is, by its mark.
 -- Assumes nothing.
 use Prim.Native.Nat.{ℕ, zero, suc, ◌+◌, ◌-◌, ◌*◌, ◌%◌, ◌^◌, ◌≤◌, ◌<◌}
-use mathlib.Core.Path.{◌≡◌, refl, sym, ◌∙◌}
+use mathlib.Core.Path.{◌≡◌, refl}
 use mathlib.Core.Bool.{Bool, true, false, cond, ◌&&◌, ◌||◌}
 use mathlib.Core.List.{List, [], ◌∷◌}
 use native.Mathlib.Omega.{arith}
+use Rattle.std.proofs.Common.{Some, None}
 use lib.Dec.{T, leb, ltb, eqb, leb→le, le→leb}
 use lib.ListN.{length, get_or}
 use lib.Pow.{pow_mono}
@@ -96,11 +97,6 @@ powers c h m = go (ltb c 128) refl h
 pub not_ext : {c : ℕ} → c < 128 → c ≡ ext → ⊥
 not_ext h e = omega arith
 
--- the bits of an extension
-pub width_ext : (c : ℕ) → c ≡ ext → width_of c ≡ 9
-unfolding width_of
-width_ext c h = rw h
-
 pub marks_at : (cs : List ℕ) (i : ℕ) → T (marks_ok cs) → i < length cs → T (mark_ok (get_or cs i 0))
 marks_at [] i h l = absurd (omega arith)
 marks_at (c ∷ cs) zero h l = (both (mark_ok c) (marks_ok cs) h).0
@@ -141,37 +137,41 @@ shown_low c v h l = go (eqb c ext) refl
 
 -- ---- the bytes of a field that is tested
 
--- a field that is none: its bytes
-pub plain_size : (c v : ℕ) → (c ≡ ext → ⊥) → size_for c v ≡ size_of c
+-- a field that is none, or an extension that is not above 299: its bytes
+pub plain_size : (c v : ℕ) → (c ≡ ext → ⊥) → size_for c v ≡ Some (size_of c)
 unfolding size_for
 plain_size c v n = rw (ne_eqb c ext n)
 
--- an extension: 2, or none where it is above 299
-pub small_size : (c v : ℕ) → c ≡ ext → v ≤ 299 → size_for c v ≡ 2
+pub small_size : (c v : ℕ) → v ≤ 299 → size_for c v ≡ Some (size_of c)
 unfolding size_for
-small_size c v h l = rw (eq-eqb c ext h, le-leb v 299 l, size_ext c h)
+small_size c v l = go (eqb c ext)
+  where
+    go : (t : Bool) → cond (leb (cond t v 0) 299) (Some (size_of c)) None ≡ Some (size_of c)
+    go true = rw (le-leb v 299 l)
+    go false = refl
 
-pub no_size : (c v : ℕ) → c ≡ ext → 299 < v → size_for c v ≡ 0
+-- and else none
+pub no_size : (c v : ℕ) → c ≡ ext → 299 < v → size_for c v ≡ None
 unfolding size_for
 no_size c v h l = rw (eq-eqb c ext h, lt-leb v 299 l)
 
 -- what the bytes tell: none that the number is refused, and is an extension; some that it passes
-pub sized_no : (c v : ℕ) {z : ℕ} → T (mark_ok c) → z ≡ size_for c v → z ≡ 0 → (299 < ext_of c v) × (ext_of c v ≡ v)
+pub sized_no : (c v : ℕ) → None ≡ size_for c v → (299 < ext_of c v) × (ext_of c v ≡ v)
 unfolding size_for
-sized_no c v {z} ok e q = go (leb (ext_of c v) 299) refl (sym e ∙ q)
+sized_no c v e = go (leb (ext_of c v) 299) refl e
   where
     is : (t : Bool) → 299 < cond t v 0 → cond t v 0 ≡ v
     is true h = refl
     is false h = absurd (omega (arith, h))
 
-    go : (t : Bool) → leb (ext_of c v) 299 ≡ t → cond t (size_of c) 0 ≡ 0 → (299 < ext_of c v) × (ext_of c v ≡ v)
-    go true l r = absurd (omega (arith, r, (mark_facts c ok).one))
+    go : (t : Bool) → leb (ext_of c v) 299 ≡ t → None ≡ cond t (Some (size_of c)) None → (299 < ext_of c v) × (ext_of c v ≡ v)
+    go true l r = absurd (cc)
     go false l r = let h : 299 < ext_of c v = leb-false (ext_of c v) 299 l in (h, is (eqb c ext) h)
 
-pub sized_yes : (c v : ℕ) {z : ℕ} → z ≡ size_for c v → (z ≡ 0 → ⊥) → (ext_of c v ≤ 299) × (z ≡ size_of c)
+pub sized_yes : (c v : ℕ) {z : ℕ} → Some z ≡ size_for c v → (ext_of c v ≤ 299) × (z ≡ size_of c)
 unfolding size_for
-sized_yes c v {z} e n = go (leb (ext_of c v) 299) refl e
+sized_yes c v {z} e = go (leb (ext_of c v) 299) refl e
   where
-    go : (t : Bool) → leb (ext_of c v) 299 ≡ t → z ≡ cond t (size_of c) 0 → (ext_of c v ≤ 299) × (z ≡ size_of c)
-    go true l r = (leb-true (ext_of c v) 299 l, r)
-    go false l r = absurd (n r)
+    go : (t : Bool) → leb (ext_of c v) 299 ≡ t → Some z ≡ cond t (Some (size_of c)) None → (ext_of c v ≤ 299) × (z ≡ size_of c)
+    go true l r = (leb-true (ext_of c v) 299 l, cc)
+    go false l r = absurd (cc)

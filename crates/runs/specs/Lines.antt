@@ -1,9 +1,10 @@
 -- Runs of fields as bytes that code goes by. A mark: w for a field of w bits, 128 + w for a signed one; but 128 + 9 is
 -- a clock's extension.
 -- Assumes nothing: these are definitions.
-use Rattle.std.specs.Prelude.{ℕ, ◌+◌, ◌-◌, Bool, true, cond, ◌&&◌, ◌||◌, List, [], ◌∷◌, ltb, leb, eqb}
+use Rattle.std.specs.Prelude.{ℕ, ◌+◌, ◌-◌, Bool, true, cond, ◌&&◌, ◌||◌, List, [], ◌∷◌, ltb, leb, eqb, length, get_or, Option, Some, None}
 use Rattle.format.specs.Syntax.{Name, Sign, unsigned, signed, Syntax, field, at_most}
 use Rattle.format.specs.Ledger.{size, widened}
+use Rattle.format.specs.declared.Fault.TheVariants.{ExtensionTooLarge}
 
 -- the mark of a clock's extension: 9 bits, whose number a body's reading tests (S-23)
 abbrev pub ext : ℕ
@@ -34,13 +35,13 @@ marks_ok (c ∷ cs) = mark_ok c && marks_ok cs
 abbrev pub ext_of : ℕ → ℕ → ℕ
 ext_of c v = cond (eqb c ext) v 0
 
--- the bytes in a ledger of a field whose number passes its test, and 0 where it does not
-unfoldable pub size_for : ℕ → ℕ → ℕ
-size_for c v = cond (leb (ext_of c v) 299) (size_of c) 0
+-- the bytes in a ledger of a field whose number passes its test, and none where it does not
+unfoldable pub size_for : ℕ → ℕ → Option ℕ
+size_for c v = cond (leb (ext_of c v) 299) (Some (size_of c)) None
 
 -- the test of an extension's number in front of what follows it
 abbrev pub tested : ℕ → ℕ → Syntax → Syntax
-tested c v s = cond (eqb c ext) (at_most 30 v 299 s) s
+tested c v s = cond (eqb c ext) (at_most ExtensionTooLarge v 299 s) s
 
 -- a field by its mark, and what follows its number
 abbrev pub line : Name → ℕ → (ℕ → Syntax) → Syntax
@@ -72,3 +73,7 @@ widths_of (c ∷ cs) = width_of c + widths_of cs
 abbrev pub sizes_of : List ℕ → ℕ
 sizes_of [] = 0
 sizes_of (c ∷ cs) = size_of c + sizes_of cs
+
+-- the bits of the last field of a run
+abbrev pub last_width : List ℕ → ℕ
+last_width cs = width_of (get_or cs (length cs - 1) 0)

@@ -9,6 +9,25 @@ use marks::EXT;
 
 pub mod marks;
 
+// Where a step over fields came to: its place in the body, in bits, its place in the ledger, and the last field's
+// number. Places of a body that is read fit 16 bits; one that is laid may be longer before it is refused.
+#[derive(Clone, Copy)]
+pub struct Step<P> {
+    pub at: P,
+    pub place: usize,
+    pub last: u64,
+}
+
+// The flags of a satellite of id 4, which say what follows them; 1 is set.
+#[derive(Clone, Copy)]
+pub struct Flags {
+    pub metadata: u64,
+    pub start: u64,
+    pub stop: u64,
+    pub acceleration: u64,
+    pub covariance: u64,
+}
+
 // The bits of a field in a body.
 pub fn width_of(mark: u8) -> usize
     ensures { result ≡ width_of mark }
@@ -23,44 +42,30 @@ pub fn width_of(mark: u8) -> usize
 pub fn size_of(mark: u8) -> usize
     ensures { result ≡ size_of mark }
 {
-    if 128 <= mark {
-        if mark == EXT {
-            return 2;
-        }
-        return 4;
+    match mark {
+        0..=8 => 1,
+        9..=16 => 2,
+        17..=32 => 4,
+        33..=127 => 8,
+        EXT => 2,
+        _ => 4,
     }
-    if mark <= 8 {
-        return 1;
-    }
-    if mark <= 16 {
-        return 2;
-    }
-    if mark <= 32 {
-        return 4;
-    }
-    8
 }
 
-// The same of a field whose number is v; 0 where that is refused, as an extension above 299 is.
-pub fn size_for(mark: u8, v: u64) -> usize
+// The same of a field whose number is v; none where that is refused, as an extension above 299 is.
+pub fn size_for(mark: u8, v: u64) -> Option<usize>
     ensures { result ≡ size_for mark v }
 {
-    if mark < 128 {
-        return size_of(mark);
+    let beyond = 299 < v;
+    if mark == EXT && beyond {
+        return None;
     }
-    if mark == EXT {
-        let beyond = 299 < v;
-        if beyond {
-            return 0;
-        }
-        return 2;
-    }
-    4
+    Some(size_of(mark))
 }
 
 // The number that a ledger has for the number v of a field: a signed one is widened to 32 bits.
 pub fn shown_of(mark: u8, v: u64) -> u64
-    requires t { T (mark_ok mark) }
+    requires valid { T (mark_ok mark) }
     requires v_bound { v < 2 ^ width_of mark }
     ensures { result ≡ shown_of mark v }
 {
@@ -92,10 +97,6 @@ pub fn copy_bytes(bytes: &[u8], out: &mut [u8])
 {
     let n = bytes.len();
     if n <= out.len() {
-        let mut i = 0;
-        while i < n {
-            out[i] = bytes[i];
-            i += 1;
-        }
+        out[..n].copy_from_slice(bytes);
     }
 }

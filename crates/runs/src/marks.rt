@@ -39,7 +39,8 @@ pub const SYSTEM: [u8; 4] = [32, 33, 6, EXT];
 // Id 2: association_type.
 pub const TYPE: [u8; 1] = [4];
 
-// leap59, leap61, pastleap59, pastleap61, the clock ncr, association_timestamp_seconds, association_timestamp_nanoseconds.
+// leap59, leap61, pastleap59, pastleap61, the clock ncr, association_timestamp_seconds,
+// association_timestamp_nanoseconds.
 pub const LEAP: [u8; 9] = [1, 1, 1, 1, 33, 6, EXT, 64, 32];
 
 // reserved in place of the leap flags, and the same behind it.

@@ -9,6 +9,7 @@ use mathlib.Core.List.{List, [], ◌∷◌}
 use native.Mathlib.Omega.{arith}
 use lib.Dec.{leb}
 use lib.ListN.{length}
+use Rattle.std.specs.Prelude.{Ok, Err}
 use Rattle.format.specs.Digits.{bits_of}
 use Rattle.format.specs.Refusals.{refuse}
 use Rattle.format.specs.Syntax.{Field, Parse, got, refused, and_then}
@@ -17,14 +18,13 @@ use Rattle.format.specs.Body.{read_body}
 use Rattle.format.specs.Whole.{starts, starts_as, body_starts}
 use Rattle.format.specs.At.{made, read, seek}
 use Rattle.format.specs.declared.Refusal.{Refusal}
+use Rattle.format.specs.declared.Fault.TheVariants.{BodyTooLong}
 use Rattle.parts.specs.declared.Part.{Part}
 use Rattle.association.specs.Association.{association_of}
 use Rattle.sat.specs.Sat.{count_of, raw_part}
 use Rattle.sat.specs.SatBody.{list_part, association_body, position3_of, position3_body, typed_body, sat_body_of}
-use Rattle.sat.specs.declared.CountAnswer.TheVariants as count
 use Rattle.sat.specs.declared.SatBody.{SatBody}
 use Rattle.sat.specs.declared.SatBody.TheVariants.{PositionV2, CellFragment, TimeAssociation, BeamhoppingTimePlan, PositionV3, Raw}
-use Rattle.sat.specs.declared.SatBodyAnswer.TheVariants.{Body, Refused}
 
 -- a body's list of entries is the part p
 abbrev pub Lists : SatBody → Part → Type 0
@@ -44,13 +44,13 @@ module _ (b : List ℕ) (x : SatBody) (p : Part) where
   list_within : (n q e : ℕ) → q ≤ 8 * length b → e ≤ 8 * length b → list_part q e n ≡ p → Within b n p
   list_within n q e h k z = rw (← z) (record { counts = refl; lies = omega arith })
 
-  typed_within : (id n e : ℕ) → e ≤ 8 * length b → typed_body id b n e ≡ Body x → Lists x p → Within b n p
+  typed_within : (id n e : ℕ) → e ≤ 8 * length b → typed_body id b n e ≡ Ok x → Lists x p → Within b n p
   unfolding typed_body association_body position3_body read
   typed_within zero n e h z l = let y : PositionV2 (record { satellites = list_part 0 e n }) ≡ x = cc in list_within n 0 e (omega arith) h (rw (← y) at l)
   typed_within (suc zero) n e h z l = let y : CellFragment (record { fragments = list_part 0 e n }) ≡ x = cc in list_within n 0 e (omega arith) h (rw (← y) at l)
   typed_within (suc (suc zero)) n e h z l = go (read_body (8 * length b) 0 tables.association (bits_of b)) z
     where
-      go : (r : Parse (List Field)) → made (8 * length b) (λ ts q. Body (TimeAssociation (association_of ts))) Refused r ≡ Body x → Within b n p
+      go : (r : Parse (List Field)) → made (8 * length b) (λ ts q. Ok (TimeAssociation (association_of ts))) Err r ≡ Ok x → Within b n p
       go (got ts rest) z = let y : TimeAssociation (association_of ts) ≡ x = cc in absurd (rw (← y) at l)
       go (refused u v w) z = let o : ◌≡◌ {A = ℕ} 0 1 = cc in absurd (omega arith)
   typed_within (suc (suc (suc zero))) n e h z l =
@@ -58,7 +58,7 @@ module _ (b : List ℕ) (x : SatBody) (p : Part) where
       list_within n 0 e (omega arith) h (rw (← y) at l)
   typed_within (suc (suc (suc (suc zero)))) n e h z l = go (read_body (8 * length b) 0 tables.header (bits_of b)) z
     where
-      go : (r : Parse (List Field)) → made (8 * length b) (λ ts q. Body (PositionV3 (position3_of ts (list_part q e n)))) Refused r ≡ Body x → Within b n p
+      go : (r : Parse (List Field)) → made (8 * length b) (λ ts q. Ok (PositionV3 (position3_of ts (list_part q e n)))) Err r ≡ Ok x → Within b n p
       go (got ts rest) z =
           let q : ℕ = 8 * length b - length rest in
           let y : PositionV3 (position3_of ts (list_part q e n)) ≡ x = cc in
@@ -67,16 +67,16 @@ module _ (b : List ℕ) (x : SatBody) (p : Part) where
   typed_within (suc (suc (suc (suc (suc i))))) n e h z l = let y : Raw (raw_part b) ≡ x = cc in absurd (rw (← y) at l)
 
 -- the part's count is what `entry_count` gives, and the part lies within the body
-pub body_counts : (id : ℕ) (b : List ℕ) (x : SatBody) (p : Part) → sat_body_of id b ≡ Body x → Lists x p
-    → (count_of id b ≡ count.Entries p.count) × (p.start + p.length ≤ length b)
+pub body_counts : (id : ℕ) (b : List ℕ) (x : SatBody) (p : Part) → sat_body_of id b ≡ Ok x → Lists x p
+    → (count_of id b ≡ Ok p.count) × (p.start + p.length ≤ length b)
 unfolding sat_body_of count_of seek
 body_counts id b x p z l = go (body_starts id b) z
   where
-    go : (y : Parse (List ℕ)) → seek b 0 (λ n p e. typed_body id b n e) Refused y ≡ Body x
-        → (seek b 0 (λ n p e. count.Entries n) count.Refused y ≡ count.Entries p.count) × (p.start + p.length ≤ length b)
+    go : (y : Parse (List ℕ)) → seek b 0 (λ n p e. typed_body id b n e) Err y ≡ Ok x
+        → (seek b 0 (λ n p e. Ok n) Err y ≡ Ok p.count) × (p.start + p.length ≤ length b)
     go (got ls rest) z =
         let w = typed_within b x p id (length ls) (8 * length b - length rest) (omega arith) z l in
-        (ap count.Entries w.counts, w.lies)
+        (ap Ok w.counts, w.lies)
     go (refused u v w) z = let o : ◌≡◌ {A = ℕ} 0 1 = cc in absurd (omega arith)
 
 -- ---- refusals
@@ -84,12 +84,12 @@ body_counts id b x p z l = go (body_starts id b) z
 module _ (b : List ℕ) {f : Refusal} {ls rest : List ℕ} where
   -- what starts a body whose entries are found is read, and so not refused
   started : (t : Bool) (r : Parse (List Field)) (k : List Field → List ℕ → Parse (List ℕ)) (x : List Field → ℕ → SatBody)
-      → cond t (and_then r k) (refused 21 (length b) 4096) ≡ got ls rest → made (8 * length b) (λ ts q. Body (x ts q)) Refused r ≡ Refused f → ⊥
+      → cond t (and_then r k) (refused BodyTooLong (length b) 4096) ≡ got ls rest → made (8 * length b) (λ ts q. Ok (x ts q)) Err r ≡ Err f → ⊥
   started true (got ts over) k x y z = let o : ◌≡◌ {A = ℕ} 0 1 = cc in absurd (omega arith)
   started true (refused u v w) k x y z = let o : ◌≡◌ {A = ℕ} 0 1 = cc in absurd (omega arith)
   started false r k x y z = let o : ◌≡◌ {A = ℕ} 0 1 = cc in absurd (omega arith)
 
-  typed_not : (id n e : ℕ) → body_starts id b ≡ got ls rest → typed_body id b n e ≡ Refused f → ⊥
+  typed_not : (id n e : ℕ) → body_starts id b ≡ got ls rest → typed_body id b n e ≡ Err f → ⊥
   unfolding body_starts starts_as typed_body association_body position3_body read
   typed_not zero n e y z = let o : ◌≡◌ {A = ℕ} 0 1 = cc in absurd (omega arith)
   typed_not (suc zero) n e y z = let o : ◌≡◌ {A = ℕ} 0 1 = cc in absurd (omega arith)
@@ -103,19 +103,19 @@ module _ (b : List ℕ) {f : Refusal} {ls rest : List ℕ} where
   typed_not (suc (suc (suc (suc (suc i))))) n e y z = let o : ◌≡◌ {A = ℕ} 0 1 = cc in absurd (omega arith)
 
 -- refused exactly when the number of entries is, and alike
-pub body_refused : (id : ℕ) (b : List ℕ) {f : Refusal} → sat_body_of id b ≡ Refused f → count_of id b ≡ count.Refused f
+pub body_refused : (id : ℕ) (b : List ℕ) {f : Refusal} → sat_body_of id b ≡ Err f → count_of id b ≡ Err f
 unfolding sat_body_of count_of seek
 body_refused id b {f} z = go (body_starts id b) refl z
   where
-    go : (y : Parse (List ℕ)) → body_starts id b ≡ y → seek b 0 (λ n p e. typed_body id b n e) Refused y ≡ Refused f
-        → seek b 0 (λ n p e. count.Entries n) count.Refused y ≡ count.Refused f
+    go : (y : Parse (List ℕ)) → body_starts id b ≡ y → seek b 0 (λ n p e. typed_body id b n e) Err y ≡ Err f
+        → seek b 0 (λ n p e. Ok n) Err y ≡ Err f
     go (got ls rest) y z = absurd (typed_not b id (length ls) (8 * length b - length rest) y z)
-    go (refused u v w) y z = let o : refuse u v w ≡ f = cc in ap count.Refused o
+    go (refused u v w) y z = let o : refuse u v w ≡ f = cc in ap Err o
 
-pub count_refused : (id : ℕ) (b : List ℕ) {f : Refusal} → count_of id b ≡ count.Refused f → sat_body_of id b ≡ Refused f
+pub count_refused : (id : ℕ) (b : List ℕ) {f : Refusal} → count_of id b ≡ Err f → sat_body_of id b ≡ Err f
 unfolding sat_body_of count_of seek
 count_refused id b {f} z = go (body_starts id b) z
   where
-    go : (y : Parse (List ℕ)) → seek b 0 (λ n p e. count.Entries n) count.Refused y ≡ count.Refused f → seek b 0 (λ n p e. typed_body id b n e) Refused y ≡ Refused f
+    go : (y : Parse (List ℕ)) → seek b 0 (λ n p e. Ok n) Err y ≡ Err f → seek b 0 (λ n p e. typed_body id b n e) Err y ≡ Err f
     go (got ls rest) z = let o : ◌≡◌ {A = ℕ} 0 1 = cc in absurd (omega arith)
-    go (refused u v w) z = let o : refuse u v w ≡ f = cc in ap Refused o
+    go (refused u v w) z = let o : refuse u v w ≡ f = cc in ap Err o

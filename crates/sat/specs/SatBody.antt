@@ -1,19 +1,19 @@
 -- A whole body as the Rust's call gives it: the description's fields by name, and the lists of entries as parts of the
 -- body's bytes.
 -- Assumes nothing: these are definitions.
-use Rattle.std.specs.Prelude.{ℕ, zero, suc, ◌-◌, ◌/◌, List}
+use Rattle.std.specs.Prelude.{ℕ, zero, suc, ◌-◌, ◌/◌, List, Result, Ok, Err}
 use Rattle.format.specs.Syntax.{Field}
 use Rattle.format.specs.Tables as tables
 use Rattle.format.specs.Whole.{body_starts}
 use Rattle.format.specs.ByName.{the}
 use Rattle.format.specs.At.{read, seek}
+use Rattle.format.specs.declared.Refusal.{Refusal}
 use Rattle.parts.specs.declared.Part.{Part}
 use Rattle.association.specs.Association.{association_of}
 use Rattle.sat.specs.Sat.{raw_part}
 use Rattle.sat.specs.declared.PositionV3Body.{PositionV3Body}
+use Rattle.sat.specs.declared.SatBody.{SatBody}
 use Rattle.sat.specs.declared.SatBody.TheVariants.{PositionV2, CellFragment, TimeAssociation, BeamhoppingTimePlan, PositionV3, Raw}
-use Rattle.sat.specs.declared.SatBodyAnswer.{SatBodyAnswer}
-use Rattle.sat.specs.declared.SatBodyAnswer.TheVariants.{Body, Refused}
 
 -- the part of n entries from the bit place p to e, where the reading ended: nothing of what is left over, and no byte
 -- where there is no entry
@@ -21,8 +21,8 @@ abbrev pub list_part : ℕ → ℕ → ℕ → Part
 list_part p e n = record { start = p / 8; length = (e - p) / 8; count = n }
 
 -- id 2: the association from its fields
-unfoldable pub association_body : List ℕ → SatBodyAnswer
-association_body b = read b 0 tables.association 0 (λ ts q. Body (TimeAssociation (association_of ts))) Refused
+unfoldable pub association_body : List ℕ → Result SatBody Refusal
+association_body b = read b 0 tables.association 0 (λ ts q. Ok (TimeAssociation (association_of ts))) Err
 
 -- id 4: the header's fields, and the satellites behind them
 abbrev pub position3_of : List Field → Part → PositionV3Body
@@ -37,18 +37,18 @@ position3_of ts part =
       creation_date_reserved_zero_future_use = the "creation_date_reserved_zero_future_use" ts;
     }
 
-unfoldable pub position3_body : List ℕ → ℕ → ℕ → SatBodyAnswer
-position3_body b n e = read b 0 tables.header 0 (λ ts q. Body (PositionV3 (position3_of ts (list_part q e n)))) Refused
+unfoldable pub position3_body : List ℕ → ℕ → ℕ → Result SatBody Refusal
+position3_body b n e = read b 0 tables.header 0 (λ ts q. Ok (PositionV3 (position3_of ts (list_part q e n)))) Err
 
 -- a body under its id; n: its number of entries, e: where the reading ended
-unfoldable pub typed_body : ℕ → List ℕ → ℕ → ℕ → SatBodyAnswer
-typed_body zero b n e = Body (PositionV2 (record { satellites = list_part 0 e n }))
-typed_body (suc zero) b n e = Body (CellFragment (record { fragments = list_part 0 e n }))
+unfoldable pub typed_body : ℕ → List ℕ → ℕ → ℕ → Result SatBody Refusal
+typed_body zero b n e = Ok (PositionV2 (record { satellites = list_part 0 e n }))
+typed_body (suc zero) b n e = Ok (CellFragment (record { fragments = list_part 0 e n }))
 typed_body (suc (suc zero)) b n e = association_body b
-typed_body (suc (suc (suc zero))) b n e = Body (BeamhoppingTimePlan (record { plans = list_part 0 e n }))
+typed_body (suc (suc (suc zero))) b n e = Ok (BeamhoppingTimePlan (record { plans = list_part 0 e n }))
 typed_body (suc (suc (suc (suc zero)))) b n e = position3_body b n e
-typed_body (suc (suc (suc (suc (suc i))))) b n e = Body (Raw (raw_part b))
+typed_body (suc (suc (suc (suc (suc i))))) b n e = Ok (Raw (raw_part b))
 
 -- once the whole body reads; its refusal otherwise
-unfoldable pub sat_body_of : ℕ → List ℕ → SatBodyAnswer
-sat_body_of id b = seek b 0 (λ n p e. typed_body id b n e) Refused (body_starts id b)
+unfoldable pub sat_body_of : ℕ → List ℕ → Result SatBody Refusal
+sat_body_of id b = seek b 0 (λ n p e. typed_body id b n e) Err (body_starts id b)

@@ -1,179 +1,131 @@
 // A case: a table id and a body, listed with all that the library reads of it.
 use entry_ids::entry_ids;
-use format::{Answer, Refusal};
+use format::Refusal;
 use list_tables::{associations, fragments, satellites};
-use list_text::{
-    Path, Text, bytes_field, bytes_of, element, list, put, put_number, put_text, root, under,
-};
+use list_text::{Hexadecimal, Listing, bytes_of};
 use parts::Part;
-use sat::{
-    BodyHeader, CountAnswer, EntryAnswer, EntryRead, SatBody, SatBodyAnswer, SatEntry, entry_at,
-    entry_count, header, sat_body_parse_entries,
-};
+use sat::{SatBody, SatEntry, entry_at, entry_count, header, sat_body_parse_entries};
+use std::io::Write;
+use std::{fmt, io};
 
 // The heading, the fields or the refusal, and an empty line.
-pub fn show_case(out: &mut Text, used: usize, id: u8, body: &[u8]) -> usize {
-    let used = put_text(out, used, b"case id ");
-    let used = put_number(out, used, id as u64);
-    let used = put_text(out, used, b" bytes ");
-    let used = put_number(out, used, body.len() as u64);
-    let used = put(out, used, b'\n');
-    let used = show_body(out, used, id, body);
-    put(out, used, b'\n')
+pub fn show_case<W: Write>(out: &mut Listing<'_, W>, id: u8, body: &[u8]) -> io::Result<()> {
+    let size = body.len();
+    out.line(format_args!("case id {id} bytes {size}"))?;
+    match sat_body_parse_entries(id, body) {
+        Ok(whole) => show_body(out, id, body, whole)?,
+        Err(refusal) => show_refusal(out, refusal)?,
+    }
+    out.line("")
 }
 
-fn show_body(out: &mut Text, used: usize, id: u8, body: &[u8]) -> usize {
-    let read = sat_body_parse_entries(id, body);
-    match read {
-        SatBodyAnswer::Body(whole) => {
-            let used = show_header(out, used, id, body);
-            let used = show_list(out, used, id, list_part(whole));
-            let used = show_entries(out, used, id, body, entries_in(id, body));
-            show_ids(out, used, id, body)
-        }
-        SatBodyAnswer::Refused(f) => show_refusal(out, used, f),
-    }
+fn show_refusal<W: Write>(out: &mut Listing<'_, W>, f: Refusal) -> io::Result<()> {
+    let number = f.fault.number();
+    let need = f.need;
+    let have = f.have;
+    out.line(format_args!("R {number} {need} {have}"))
 }
 
-fn show_refusal(out: &mut Text, used: usize, f: Refusal) -> usize {
-    let used = put_text(out, used, b"R ");
-    let used = put_number(out, used, f.number as u64);
-    let used = put(out, used, b' ');
-    let used = put_number(out, used, f.need as u64);
-    let used = put(out, used, b' ');
-    let used = put_number(out, used, f.have as u64);
-    put(out, used, b'\n')
-}
-
-// The header, which a body has under id 4 alone.
-fn show_header(out: &mut Text, used: usize, id: u8, body: &[u8]) -> usize {
-    let found = header(id, body);
-    match found {
-        BodyHeader::Header(h) => list_ephemeris::show_header(out, used, root(), h),
-        BodyHeader::None => used,
-        BodyHeader::Refused(f) => show_refusal(out, used, f),
-    }
-}
-
-// The path of the list of entries; the root for a body that is no list.
-fn list_path(id: u8) -> Path {
-    if id == 0 {
-        return under(root(), b"satellites");
-    }
-    if id == 1 {
-        return under(root(), b"fragments");
-    }
-    if id == 3 {
-        return under(root(), b"plans");
-    }
-    if id == 4 {
-        return under(root(), b"satellites");
-    }
-    root()
-}
-
-// The part of a body's list of entries; of a body that is no list nothing is shown.
-fn list_part(whole: SatBody) -> Part {
-    match whole {
-        SatBody::PositionV2(b) => b.satellites,
-        SatBody::CellFragment(b) => b.fragments,
-        SatBody::BeamhoppingTimePlan(b) => b.plans,
-        SatBody::PositionV3(b) => b.satellites,
-        SatBody::TimeAssociation(_) | SatBody::Raw(_) => Part {
-            start: 0,
-            length: 0,
-            count: 0,
-        },
-    }
-}
-
-fn show_list(out: &mut Text, used: usize, id: u8, part: Part) -> usize {
-    let at = list_path(id);
-    if at.length == 0 {
-        return used;
-    }
-    list(out, used, at, part)
-}
-
-fn entries_in(id: u8, body: &[u8]) -> usize {
-    let counted = entry_count(id, body);
-    let CountAnswer::Entries(count) = counted else {
-        return 0;
-    };
-    count
-}
-
-fn show_entries(out: &mut Text, used: usize, id: u8, body: &[u8], count: usize) -> usize {
-    let mut used = used;
-    for i in 0..count {
-        used = show_read(out, used, entry_path(id, i), body, entry_at(id, body, i));
-    }
-    used
-}
-
-fn entry_path(id: u8, index: usize) -> Path {
-    let at = list_path(id);
-    if at.length == 0 {
-        return at;
-    }
-    element(at, index)
-}
-
-fn show_read(out: &mut Text, used: usize, at: Path, body: &[u8], read: EntryRead) -> usize {
-    let elements = read.covariance_elements;
-    let answer = read.answer;
-    match answer {
-        EntryAnswer::Entry(entry) => show_entry(out, used, at, body, entry, elements),
-        EntryAnswer::None => used,
-        EntryAnswer::Refused(f) => show_refusal(out, used, f),
-    }
-}
-
-fn show_entry(
-    out: &mut Text,
-    used: usize,
-    at: Path,
+// The header, which a body has under id 4 alone, the entries, and their ids.
+fn show_body<W: Write>(
+    out: &mut Listing<'_, W>,
+    id: u8,
     body: &[u8],
-    entry: SatEntry,
-    elements: [u32; 21],
-) -> usize {
+    whole: SatBody,
+) -> io::Result<()> {
+    match header(id, body) {
+        Ok(Some(h)) => list_ephemeris::show_header(out, h)?,
+        Ok(None) => {}
+        Err(refusal) => show_refusal(out, refusal)?,
+    }
+    let count = entry_count(id, body).unwrap_or(0);
+    match list_of(whole) {
+        Some(list) => show_list(&mut out.part(list.name)?, id, body, list.part, count)?,
+        None => {
+            for i in 0..count {
+                show_entry(out, id, body, i)?;
+            }
+        }
+    }
+    show_ids(out, id, body)
+}
+
+// A body's list of entries.
+#[derive(Clone, Copy)]
+struct List {
+    name: &'static str,
+    part: Part,
+}
+
+// The list of a body; none for a body that is no list.
+fn list_of(whole: SatBody) -> Option<List> {
+    let (name, part) = match whole {
+        SatBody::PositionV2(b) => ("satellites", b.satellites),
+        SatBody::CellFragment(b) => ("fragments", b.fragments),
+        SatBody::BeamhoppingTimePlan(b) => ("plans", b.plans),
+        SatBody::PositionV3(b) => ("satellites", b.satellites),
+        SatBody::TimeAssociation(_) | SatBody::Raw(_) => return None,
+    };
+    Some(List { name, part })
+}
+
+fn show_list<W: Write>(
+    out: &mut Listing<'_, W>,
+    id: u8,
+    body: &[u8],
+    part: Part,
+    count: usize,
+) -> io::Result<()> {
+    out.list(part)?;
+    for i in 0..count {
+        show_entry(&mut out.element(i)?, id, body, i)?;
+    }
+    Ok(())
+}
+
+fn show_entry<W: Write>(
+    out: &mut Listing<'_, W>,
+    id: u8,
+    body: &[u8],
+    index: usize,
+) -> io::Result<()> {
+    match entry_at(id, body, index) {
+        Ok(Some(entry)) => show_fields(out, body, entry),
+        Ok(None) => Ok(()),
+        Err(refusal) => show_refusal(out, refusal),
+    }
+}
+
+fn show_fields<W: Write>(out: &mut Listing<'_, W>, body: &[u8], entry: SatEntry) -> io::Result<()> {
     match entry {
-        SatEntry::PositionV2(s) => satellites::show(out, used, at, s),
-        SatEntry::CellFragment(f) => fragments::show(out, used, at, body, f),
-        SatEntry::TimeAssociation(a) => associations::show(out, used, at, a),
-        SatEntry::BeamhoppingTimePlan(p) => list_plans::show(out, used, at, body, p),
-        SatEntry::PositionV3(s) => list_ephemeris::show(out, used, at, body, s, elements),
-        SatEntry::Raw(part) => { bytes_field(out, used, under(at, b"Raw"), bytes_of(body, part)) }
+        SatEntry::PositionV2(s) => satellites::show(out, s),
+        SatEntry::CellFragment(f) => fragments::show(out, body, f),
+        SatEntry::TimeAssociation(a) => associations::show(out, a),
+        SatEntry::BeamhoppingTimePlan(p) => list_plans::show(out, body, p),
+        SatEntry::PositionV3(s) => list_ephemeris::show(out, body, s),
+        SatEntry::Raw(part) => out.field("Raw", Hexadecimal(bytes_of(body, part))),
+    }
+}
+
+// Ids as a line.
+#[derive(Clone, Copy)]
+struct Ids<'a>(&'a [u32]);
+
+impl fmt::Display for Ids<'_> {
+    fn fmt<W: fmt::Write>(&self, f: &mut fmt::Formatter<W>) -> fmt::Result {
+        write!(f, "ids")?;
+        for id in self.0 {
+            write!(f, " {id}")?;
+        }
+        Ok(())
     }
 }
 
 // The different ids of the entries on one line, in the order of first entries. A body has at most 1,024 entries.
-fn show_ids(out: &mut Text, used: usize, id: u8, body: &[u8]) -> usize {
+fn show_ids<W: Write>(out: &mut Listing<'_, W>, id: u8, body: &[u8]) -> io::Result<()> {
     let mut ids = [0u32; 1024];
-    let found = entry_ids(id, body, &mut ids);
-    let Answer::Done {
-        table_id: _,
-        length: count,
-    } = found
-    else {
-        return used;
+    let Ok(found) = entry_ids(id, body, &mut ids) else {
+        return Ok(());
     };
-    let used = put_text(out, used, b"ids");
-    let used = put_ids(out, used, &ids, count);
-    put(out, used, b'\n')
-}
-
-fn put_ids(out: &mut Text, used: usize, ids: &[u32; 1024], count: usize) -> usize {
-    let mut used = used;
-    for i in 0..count {
-        if i < 1024 {
-            used = put_id(out, used, ids[i]);
-        }
-    }
-    used
-}
-
-fn put_id(out: &mut Text, used: usize, id: u32) -> usize {
-    let used = put(out, used, b' ');
-    put_number(out, used, id as u64)
+    out.line(Ids(ids.get(..found.length).unwrap_or(&[])))
 }

@@ -1,160 +1,97 @@
-// The cases of the input: a line for each, in hexadecimal, read a block of bytes at a time.
+// A line of the input: a case in hexadecimal, taken a character at a time.
 use crate::case::show_case;
-use list_text::{Text, bytes_of, put_text};
-use parts::Part;
-use std::io::{Read, Stdin};
+use list_text::Listing;
+use std::alloc::{AllocError, Global};
+use std::io::Write;
+use std::{fmt, io};
 
-// What there is of the line in hand. The body's bytes are kept beside it, of which `count` are there.
+// How many bytes of a line are kept: the table id, and 65,536 of the body.
+const MOST: usize = 65537;
+
+// Why a line is no case.
 #[derive(Clone, Copy)]
-pub struct Line {
-    pub has_id: bool,
-    pub id: u8,
-    pub count: usize,
-    // A digit that is the upper half of a byte, as that half.
-    pub is_half: bool,
-    pub half: u8,
-    // It has something else than digits; or more bytes than are kept.
-    pub is_bad: bool,
-    pub is_long: bool,
+enum NoCase {
+    NoInput,
+    NotHexadecimal,
+    TooLong,
 }
 
-// The line in hand, how many bytes of the text are in use, and whether there may be more input.
-#[derive(Clone, Copy)]
-pub struct State {
-    pub line: Line,
-    pub used: usize,
-    pub is_open: bool,
-}
-
-fn new_line() -> Line {
-    Line {
-        has_id: false,
-        id: 0,
-        count: 0,
-        is_half: false,
-        half: 0,
-        is_bad: false,
-        is_long: false,
-    }
-}
-
-pub fn new_state() -> State {
-    State {
-        line: new_line(),
-        used: 0,
-        is_open: true,
-    }
-}
-
-// The value of a digit in hexadecimal, or 16.
-fn digit_value(byte: u8) -> u8 {
-    match byte {
-        b'0'..=b'9' => byte - b'0',
-        b'A'..=b'F' => byte - b'A' + 10,
-        b'a'..=b'f' => byte - b'a' + 10,
-        _ => 16,
-    }
-}
-
-// Takes a whole byte: the first is the table id, the others are the body's.
-fn take_byte(body: &mut [u8; 65536], line: Line, byte: u8) -> Line {
-    let mut line = line;
-    line.is_half = false;
-    if !line.has_id {
-        line.has_id = true;
-        line.id = byte;
-        return line;
-    }
-    let at = line.count;
-    if at < 65536 {
-        body[at] = byte;
-        line.count = at + 1;
-    } else {
-        line.is_long = true;
-    }
-    line
-}
-
-// Takes a character of a line.
-fn take_character(body: &mut [u8; 65536], line: Line, character: u8) -> Line {
-    let mut line = line;
-    let value = digit_value(character);
-    if value >= 16 {
-        line.is_bad = true;
-        return line;
-    }
-    if line.is_half {
-        return take_byte(body, line, line.half | value);
-    }
-    line.is_half = true;
-    line.half = value * 16;
-    line
-}
-
-// Shows the case of a line that is whole.
-fn end_line(out: &mut Text, used: usize, body: &[u8; 65536], line: Line) -> usize {
-    if line.is_bad {
-        return put_text(out, used, b"case not hexadecimal\n\n");
-    }
-    if line.is_half {
-        return put_text(out, used, b"case not hexadecimal\n\n");
-    }
-    if !line.has_id {
-        return put_text(out, used, b"case no input\n\n");
-    }
-    if line.is_long {
-        return put_text(out, used, b"case too long\n\n");
-    }
-    show_start(out, used, line.id, body, line.count)
-}
-
-// Shows the case whose body is the first bytes of a buffer.
-fn show_start(out: &mut Text, used: usize, id: u8, buffer: &[u8], count: usize) -> usize {
-    let part = Part {
-        start: 0,
-        length: count,
-        count,
-    };
-    show_case(out, used, id, bytes_of(buffer, part))
-}
-
-// Takes a block of the input, in which lines may end.
-fn take_block(out: &mut Text, body: &mut [u8; 65536], block: &[u8], state: State) -> State {
-    let mut line = state.line;
-    let mut used = state.used;
-    for i in 0..block.len() {
-        let character = block[i];
-        if character == b'\n' {
-            used = end_line(out, used, body, line);
-            line = new_line();
-        } else {
-            line = take_character(body, line, character);
+impl fmt::Display for NoCase {
+    fn fmt<W: fmt::Write>(&self, f: &mut fmt::Formatter<W>) -> fmt::Result {
+        match self {
+            NoCase::NoInput => write!(f, "no input"),
+            NoCase::NotHexadecimal => write!(f, "not hexadecimal"),
+            NoCase::TooLong => write!(f, "too long"),
         }
     }
-    State {
-        line,
-        used,
-        is_open: used <= 8192,
+}
+
+// What there is of the line in hand.
+#[derive(Drop)]
+pub struct Line {
+    bytes: Vec<u8>,
+    // A digit that is the upper half of a byte, as that half.
+    half: Option<u8>,
+    // What is wrong with it so far.
+    fault: Option<NoCase>,
+}
+
+impl Line {
+    pub fn new(alloc: Global) -> Line {
+        Line {
+            bytes: Vec::new(alloc),
+            half: None,
+            fault: None,
+        }
+    }
+
+    pub fn clear(&mut self) {
+        self.bytes.clear();
+        self.half = None;
+        self.fault = None;
+    }
+
+    pub fn is_empty(&self) -> bool {
+        self.bytes.is_empty() && self.half.is_none() && self.fault.is_none()
+    }
+
+    // Takes a character. One that is no digit is told before all else, and a line too long only where it has none.
+    pub fn take(&mut self, character: u8) -> Result<(), AllocError> {
+        let Some(digit) = char::from(character).to_digit(16) else {
+            self.fault = Some(NoCase::NotHexadecimal);
+            return Ok(());
+        };
+        let digit = digit as u8;
+        match self.half.take() {
+            None => self.half = Some(digit << 4),
+            Some(half) => self.take_byte(half | digit)?,
+        }
+        Ok(())
+    }
+
+    fn take_byte(&mut self, byte: u8) -> Result<(), AllocError> {
+        if self.bytes.len() < MOST {
+            self.bytes.push(byte)?;
+        } else if self.fault.is_none() {
+            self.fault = Some(NoCase::TooLong);
+        }
+        Ok(())
+    }
+
+    // Lists the case of a line that is whole: its first byte is the table id, the others are the body.
+    pub fn show<W: Write>(&self, out: &mut Listing<'_, W>) -> io::Result<()> {
+        let fault = match self.half {
+            Some(_) => Some(NoCase::NotHexadecimal),
+            None => self.fault,
+        };
+        match (fault, self.bytes.split_first()) {
+            (None, Some((id, body))) => show_case(out, *id, body),
+            (None, None) => show_no_case(out, NoCase::NoInput),
+            (Some(fault), _) => show_no_case(out, fault),
+        }
     }
 }
 
-// Reads once, and takes what came. A read that fails ends the input.
-pub fn take_some(stdin: &mut Stdin, out: &mut Text, body: &mut [u8; 65536], state: State) -> State {
-    let mut block = [0u8; 65536];
-    let n = stdin.read(&mut block).unwrap_or(0);
-    if n == 0 {
-        let mut state = state;
-        state.is_open = false;
-        return state;
-    }
-    take_block(out, body, &block[..n], state)
-}
-
-// Shows the case of a last line that no line end follows.
-pub fn take_rest(out: &mut Text, body: &[u8; 65536], state: State) -> usize {
-    let line = state.line;
-    if line.has_id || line.is_half || line.is_bad {
-        return end_line(out, state.used, body, line);
-    }
-    state.used
+fn show_no_case<W: Write>(out: &mut Listing<'_, W>, fault: NoCase) -> io::Result<()> {
+    out.line(format_args!("case {fault}\n"))
 }

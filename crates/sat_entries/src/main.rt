@@ -3,29 +3,54 @@
 // For each case it writes `case id N bytes N`, a line `name value` for every field, or the refusal, and an empty line.
 #![tactic(auto)]
 
-use list_text::{Text, new_text, put_out};
-use std::io::Stdin;
+use input::Line;
+use list_text::Listing;
+use std::alloc::Global;
+use std::io;
+use std::io::{BufReader, BufWriter, ErrorKind, Read, Stdout, Write};
 
 mod case;
 mod input;
 
-// A proved loop has to end, and nothing says that the input does.
-// So the loop counts its turns down, from a number that no run uses up.
-fn take_all(stdin: &mut Stdin, out: &mut Text, body: &mut [u8; 65536]) -> input::State {
-    let mut state = input::new_state();
-    let mut turns = u64::MAX;
-    while turns > 0 && state.is_open {
-        state = input::take_some(stdin, out, body, state);
-        turns -= 1;
+// Lists the cases of the input. A read that fails ends it.
+fn list_all<R: Read + Drop, W: Write>(
+    alloc: Global,
+    input: BufReader<R>,
+    to: &mut W,
+) -> io::Result<()> {
+    let mut out = Listing::new(alloc, to);
+    let mut line = Line::new(alloc);
+    for character in input.bytes() {
+        match character {
+            Ok(b'\n') => {
+                line.show(&mut out)?;
+                line.clear();
+            }
+            Ok(character) => line.take(character)?,
+            Err(_) => break,
+        }
     }
-    state
+    // A last line that no line end follows.
+    if !line.is_empty() {
+        line.show(&mut out)?;
+    }
+    Ok(())
 }
 
-fn main(rt: HostRuntime) {
-    let mut stdin = rt.stdin();
-    let mut out = new_text(rt.stdout());
-    let mut body = [0u8; 65536];
-    let state = take_all(&mut stdin, &mut out, &mut body);
-    let used = input::take_rest(&mut out, &body, state);
-    put_out(&out, used);
+fn run(rt: &HostRuntime, to: &mut BufWriter<Stdout>) -> io::Result<()> {
+    let input = BufReader::with_capacity(rt.alloc(), 65536, rt.stdin())?;
+    list_all(rt.alloc(), input, to)?;
+    to.flush()
+}
+
+// Where the output cannot be written the program stops, and tries no more of it. That memory ran out it tells.
+fn main(rt: HostRuntime) -> io::Result<()> {
+    let mut to = BufWriter::new(rt.alloc(), rt.stdout())?;
+    if let Err(e) = run(&rt, &mut to) {
+        let _ = to.into_parts();
+        if e.kind() == ErrorKind::OutOfMemory {
+            return Err(e);
+        }
+    }
+    Ok(())
 }

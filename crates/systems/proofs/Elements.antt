@@ -3,32 +3,30 @@
 use Prim.Native.Nat.{ℕ, ◌+◌, ◌*◌, ◌≤◌, ◌<◌}
 use Prim.Native.String.{◌++◌}
 use mathlib.Core.Path.{◌≡◌, refl, sym, ap, ◌∙◌}
-use mathlib.Core.Bool.{Bool, true, false, not, ◌&&◌}
+use mathlib.Core.Bool.{Bool, true, false, cond, ◌&&◌}
 use mathlib.Core.List.{List, [], ◌∷◌}
 use native.Mathlib.Omega.{arith}
 use lib.Dec.{leb, ltb}
 use lib.ListN.{length}
-use borrow.Author.Tests.{leb-true, ltb-true}
+use Rattle.std.specs.Prelude.{Option, Some, None, Result, Ok, Err}
+use Rattle.std.specs.Result.{result_ok}
+use borrow.Author.Tests.{leb-true, ltb-true, le-leb, lt-ltb}
 use Rattle.format.specs.Syntax.{Name, unsigned, Syntax, end, Field, num}
 use Rattle.format.specs.Tables.{u, clock, system}
 use Rattle.format.specs.At.{read}
+use Rattle.format.specs.ByName.{first_by}
 use Rattle.format.specs.Digits.{value_at}
 use Rattle.format.specs.declared.Refusal.{Refusal}
+use Rattle.format.specs.declared.Found.{Found}
 use Rattle.format.proofs.GroupLaws.{Line, plainly, group}
 use Rattle.bits.specs.Read.{Place, Room}
 use Rattle.bits.proofs.Reading.{over}
-use Rattle.clocks.specs.Clocks.{clock_at, refusal_of}
+use Rattle.clocks.specs.Clocks.{clock_at}
 use Rattle.clocks.specs.declared.Clock.{Clock}
-use Rattle.clocks.specs.declared.ClockAnswer.{ClockAnswer}
-use Rattle.clocks.specs.declared.ClockAnswer.TheVariants.{Read, Refused}
 use Rattle.clocks.proofs.Clocks.{put, got_clock, cut_clock, clock_place}
 use Rattle.parts.specs.declared.Part.{Part}
-use Rattle.systems.specs.Systems.{within, element_at}
-
--- what a test of `!there` says of it
-not_not : (x : Bool) → not (not x) ≡ x
-not_not true = refl
-not_not false = refl
+use Rattle.systems.specs.Systems.{within, place_of, element_at, system_of, system_at}
+use Rattle.systems.specs.declared.System.{System}
 
 both : (x y : Bool) → x && y ≡ true → (x ≡ true) × (y ≡ true)
 both true y h = (refl, h)
@@ -40,41 +38,63 @@ pub record Within (len start count size index : ℕ) : Type 0 where
   pub counted : index < count
   pub fits : start + size * index + size ≤ len
 
-pub holds : (len start count size index : ℕ) {t : Bool} → t ≡ within len start count size index → not t ≡ false → Within len start count size index
+holds : (len start count size index : ℕ) → within len start count size index ≡ true → Within len start count size index
 unfolding within
-holds len start count size index {t} e h =
-    let y : t ≡ true = sym (not_not t) ∙ ap not h in
-    let o = both (leb len 4096 && ltb index count) (leb (start + size * index + size) len) (sym e ∙ y) in
+holds len start count size index e =
+    let o = both (leb len 4096 && ltb index count) (leb (start + size * index + size) len) e in
     let p = both (leb len 4096) (ltb index count) o.0 in
     record { short = leb-true len 4096 p.0; counted = ltb-true index count p.1; fits = leb-true (start + size * index + size) len o.1 }
 
--- and where it does not
-pub fails : (len start count size index : ℕ) → (Within len start count size index → ⊥) → false ≡ within len start count size index
-fails len start count size index h = go (within len start count size index) refl
-  where
-    go : (t : Bool) → within len start count size index ≡ t → false ≡ t
-    go true e = absurd (h (holds len start count size index (sym e) refl))
-    go false e = refl
+-- where a list has no element, and where it has one
+module _ (len : ℕ) (part : Part) (size index : ℕ) where
+  pub no_place : (Within len part.start part.count size index → ⊥) → None ≡ place_of len part size index
+  unfolding place_of
+  no_place h = go (within len part.start part.count size index) refl
+    where
+      go : (t : Bool) → within len part.start part.count size index ≡ t
+          → None ≡ cond t (Some (8 * (part.start + size * index))) None
+      go true e = absurd (h (holds len part.start part.count size index e))
+      go false e = refl
 
-module _ {A : Type 0} (size : ℕ) (s : Syntax) (found : List Field → A) (none : A) (b : List ℕ) (part : Part) (index : ℕ) where
-  -- an element that is not there, and one that is
-  pub no_element : {t : Bool} → t ≡ within (length b) part.start part.count size index → not t ≡ true
-      → none ≡ element_at size s found none b part index
-  unfolding element_at
-  no_element {t} e h =
-      let z : within (length b) part.start part.count size index ≡ false = sym e ∙ sym (not_not t) ∙ ap not h in
-      rw z
+  pub a_place : len ≤ 4096 → index < part.count → part.start + size * index + size ≤ len
+      → Some (8 * (part.start + size * index)) ≡ place_of len part size index
+  unfolding place_of within
+  a_place short counted fits = rw (le-leb len 4096 short, lt-ltb index part.count counted, le-leb (part.start + size * index + size) len fits)
 
-  pub element : {t : Bool} {x : A} → t ≡ within (length b) part.start part.count size index → not t ≡ false
-      → x ≡ read b 0 s (8 * (part.start + size * index)) (λ ts q. found ts) (λ f. none) → x ≡ element_at size s found none b part index
-  unfolding element_at
-  element {t} e h q =
-      let z : within (length b) part.start part.count size index ≡ true = sym e ∙ sym (not_not t) ∙ ap not h in
-      rw z q
+-- the place that was found: of an element that is there
+pub record Placed (b : List ℕ) (part : Part) (size index at : ℕ) : Type 0 where
+  pub inside : within (length b) part.start part.count size index ≡ true
+  pub place : at ≡ 8 * (part.start + size * index)
+  pub room : Room b at (8 * size)
 
--- the bits of an element that is there, from the place at which it starts
-pub element_room : (b : List ℕ) (start count size index : ℕ) → Within (length b) start count size index → Room b (8 * (start + size * index)) (8 * size)
-element_room b start count size index w = record { short = omega (arith, w.short); fits = omega (arith, w.fits) }
+module _ {r : Option ℕ} (b : List ℕ) (part : Part) (size index : ℕ) (e : r ≡ place_of (length b) part size index) where
+  pub placed : {at : ℕ} → r ≡ Some at → Placed b part size index at
+  unfolding place_of
+  placed {at} m = go (within (length b) part.start part.count size index) refl (sym m ∙ e)
+    where
+      go : (t : Bool) → within (length b) part.start part.count size index ≡ t
+          → Some at ≡ cond t (Some (8 * (part.start + size * index))) None → Placed b part size index at
+      go true h q =
+          let w = holds _ _ _ _ _ h in
+          let z : at ≡ 8 * (part.start + size * index) = cc in
+          record { inside = h; place = z; room = record { short = w.short; fits = omega (arith, w.fits) } }
+      go false h q = cc
+
+  module _ {A : Type 0} (s : Syntax) (found : List Field → A) (none : A) where
+    pub no_element : {x : A} → r ≡ None → x ≡ none → x ≡ element_at size s found none b part index
+    unfolding place_of element_at
+    no_element m y = y ∙ go (within (length b) part.start part.count size index) refl (sym m ∙ e)
+      where
+        go : (t : Bool) → within (length b) part.start part.count size index ≡ t
+            → None ≡ cond t (Some (8 * (part.start + size * index))) None
+            → none ≡ cond (within (length b) part.start part.count size index) (read b 0 s (8 * (part.start + size * index)) (λ ts q. found ts) (λ f. none)) none
+        go true h q = cc
+        go false h q = rw h
+
+    pub element : {x : A} {at : ℕ} → r ≡ Some at → x ≡ read b 0 s at (λ ts q. found ts) (λ f. none)
+        → x ≡ element_at size s found none b part index
+    unfolding element_at
+    element m q = let o = placed m in rw o.inside (rw o.place at q)
 
 -- the lines of a system
 abbrev pub lines : Name → Name → List Line
@@ -84,17 +104,18 @@ lines id time = plainly id 32 ∷ plainly (time ++ "_base") 33 ∷ plainly (time
 pub clock_behind : (b : List ℕ) (p : ℕ) → Room b p 80 → Place b (p + 32)
 clock_behind b p l = record { short = l.short; within = omega (arith, l.fits) }
 
-module _ {A : Type 0} {x : A} {r : ClockAnswer} (b : List ℕ) (e p : ℕ) (found : List Field → ℕ → A) (fail : Refusal → A) (id time : Name) (s : Syntax) where
+module _ {A : Type 0} {x : A} {r : Result (Found Clock) Refusal} (b : List ℕ) (e p : ℕ) (found : List Field → ℕ → A) (fail : Refusal → A) (id time : Name) (s : Syntax) where
   -- a system whose clock was read, or refused, in front of others
-  pub got_system : {k : Clock} {n : ℕ} → Room b p 80 → r ≡ clock_at b (p + 32) → r ≡ Read k n
-      → x ≡ read b e s n (λ ts. found (num unsigned id 32 (value_at b p 32) ∷ put time k ts)) fail → x ≡ read b e (system id time s) p found fail
+  pub got_system : {y : Found Clock} → Room b p 80 → r ≡ clock_at b (p + 32) → r ≡ Ok y
+      → x ≡ read b e s y.next (λ ts. found (num unsigned id 32 (value_at b p 32) ∷ put time y.value ts)) fail
+      → x ≡ read b e (system id time s) p found fail
   got_system l h m q =
       group b e p (plainly id 32 ∷ []) (clock time s) found fail (omega (arith, l.fits)) (got_clock b e (p + 32) _ fail time s h m (clock_behind b p l) q)
 
-  pub cut_system : {f g : Refusal} → Room b p 80 → r ≡ clock_at b (p + 32) → r ≡ Refused f → g ≡ refusal_of r
-      → x ≡ fail g → x ≡ read b e (system id time s) p found fail
-  cut_system l h m w q =
-      group b e p (plainly id 32 ∷ []) (clock time s) found fail (omega (arith, l.fits)) (cut_clock b e (p + 32) _ fail time s h m w (clock_behind b p l) q)
+  pub cut_system : {f : Refusal} → Room b p 80 → r ≡ clock_at b (p + 32) → r ≡ Err f → x ≡ fail f
+      → x ≡ read b e (system id time s) p found fail
+  cut_system l h m q =
+      group b e p (plainly id 32 ∷ []) (clock time s) found fail (omega (arith, l.fits)) (cut_clock b e (p + 32) _ fail time s h m (clock_behind b p l) q)
 
 module _ {A : Type 0} {x : A} (b : List ℕ) (p : ℕ) (found : List Field → A) (none : A) where
   -- an id of 32 bits alone, and one with a clock behind it that was read
@@ -104,8 +125,70 @@ module _ {A : Type 0} {x : A} (b : List ℕ) (p : ℕ) (found : List Field → A
       group b 0 p (plainly nm 32 ∷ []) end _ _ h.fits
       (over b 0 (p + 32) _ _ (record { short = h.short; within = h.fits }) (q ∙ ap (λ (n : ℕ). found (num unsigned nm 32 n ∷ [])) e))
 
-  pub id_and_clock : {v n : ℕ} {k : Clock} {r : ClockAnswer} (id time : Name) → Room b p 80 → v ≡ value_at b p 32
-      → r ≡ clock_at b (p + 32) → r ≡ Read k n → x ≡ found (num unsigned id 32 v ∷ put time k []) → x ≡ read b 0 (system id time end) p (λ ts q. found ts) (λ f. none)
-  id_and_clock {v} {n} {k} id time l e h m q =
+  pub id_and_clock : {v : ℕ} {y : Found Clock} {r : Result (Found Clock) Refusal} (id time : Name) → Room b p 80
+      → v ≡ value_at b p 32
+      → r ≡ clock_at b (p + 32) → r ≡ Ok y → x ≡ found (num unsigned id 32 v ∷ put time y.value [])
+      → x ≡ read b 0 (system id time end) p (λ ts q. found ts) (λ f. none)
+  id_and_clock {v} {y} id time l e h m q =
       got_system b 0 p _ _ id time end l h m
-      (over b 0 n _ _ (clock_place (p + 32) m h (clock_behind b p l)) (q ∙ ap (λ (y : ℕ). found (num unsigned id 32 y ∷ put time k [])) e))
+      (over b 0 y.next _ _ (clock_place (p + 32) m h (clock_behind b p l)) (q ∙ ap (λ (n : ℕ). found (num unsigned id 32 n ∷ put time y.value [])) e))
+
+-- a clock's answer as an option: it was read, or it was refused
+pub was_read : {r : Result (Found Clock) Refusal} {o : Option (Found Clock)} {y : Found Clock} → o ≡ result_ok r
+    → o ≡ Some y → r ≡ Ok y
+was_read {r = Ok x} {y = y} e m = let z : Some y ≡ Some x = sym m ∙ e in cc
+was_read {r = Err f} e m = cc
+
+pub was_refused : {r : Result (Found Clock) Refusal} {o : Option (Found Clock)} → o ≡ result_ok r → o ≡ None
+    → (f : Refusal) × (r ≡ Err f)
+was_refused {r = Ok x} e m = cc
+was_refused {r = Err f} e m = (f, refl)
+
+-- ---- a system is the same under every name
+
+-- what is made of a system, where there is one
+unfoldable pub given : {A : Type 0} → (System → A) → A → Option System → A
+given make none (Some x) = make x
+given make none None = none
+
+module _ {A : Type 0} (id time : Name) (found : List Field → A) (none : A) (make : System → A)
+    (same : (v : ℕ) (k : Clock) → found (num unsigned id 32 v ∷ put time k []) ≡ make (record { id = v; time = k }))
+  where
+    pub named : (b : List ℕ) (part : Part) (index : ℕ)
+        → element_at 10 (system id time end) found none b part index ≡ given make none (system_at b part index)
+    unfolding element_at given first_by
+    named b part index = go (within (length b) part.start part.count 10 index) refl
+      where
+        p : ℕ
+        p = 8 * (part.start + 10 * index)
+
+        own : List Field → Option System
+        own ts = Some (system_of ts)
+
+        mine : Option System
+        mine = read b 0 (system "system_id" "time" end) p (λ ts q. own ts) (λ f. None)
+
+        its : A
+        its = read b 0 (system id time end) p (λ ts q. found ts) (λ f. none)
+
+        clocked : Room b p 80 → (y : Result (Found Clock) Refusal) → clock_at b (p + 32) ≡ y
+            → its ≡ given make none mine
+        clocked l (Ok y) h =
+            sym (id_and_clock b p found none id time l refl refl h refl) ∙ same (value_at b p 32) y.value
+            ∙ ap (given make none) (id_and_clock {x = Some (record { id = value_at b p 32; time = y.value })} b p own None "system_id" "time" l refl refl h refl)
+        clocked l (Err f) h =
+            sym (cut_system b 0 p (λ ts q. found ts) (λ f. none) id time end l refl h refl)
+            ∙ ap (given make none) (cut_system {x = None} b 0 p (λ ts q. own ts) (λ f. None) "system_id" "time" end l refl h refl)
+
+        go : (t : Bool) → within (length b) part.start part.count 10 index ≡ t
+            → cond t its none ≡ given make none (cond t mine None)
+        go true h =
+            let w = holds _ _ _ _ _ h in
+            clocked (record { short = w.short; fits = omega (arith, w.fits) }) (clock_at b (p + 32)) refl
+        go false h = refl
+
+    -- so of what `system_at` answers
+    pub named_as : {r : Option System} {x : A} {y : Option System} (b : List ℕ) (part : Part) (index : ℕ)
+        → r ≡ system_at b part index → r ≡ y
+        → x ≡ given make none y → x ≡ element_at 10 (system id time end) found none b part index
+    named_as b part index e m q = q ∙ ap (given make none) (sym m ∙ e) ∙ sym (named b part index)

@@ -3,11 +3,12 @@
 
 ghost use Rattle.std.specs.Prelude.{◌≡◌, ◌≤◌};
 ghost use Rattle.bits.specs.Read.{Place};
-ghost use Rattle.systems.specs.Systems.{systems_at, within, id_at, new_at, obsolescent_at};
+ghost use Rattle.systems.specs.Systems.{systems_at, place_of, system_at, id_at, new_at, obsolescent_at};
 
 use bits::value_at;
-use clocks::{ClockAnswer, clock_refusal, clock_within};
-use parts::{Part, PartAnswer, read_part};
+use clocks::{Clock, clock_within};
+use format::{Fault, Found, Refusal};
+use parts::{Part, read_part};
 
 #[derive(Clone, Copy)]
 pub struct NewDeliverySystem {
@@ -25,123 +26,89 @@ pub struct ObsolescentDeliverySystem {
     pub reserved_zero_future_use: u8,
 }
 
+// What a new and an obsolescent delivery system have alike: an id, and a clock behind it.
 #[derive(Clone, Copy)]
-pub enum MaybeDeliverySystemId {
-    Id(u32),
-    None,
+struct System {
+    id: u32,
+    time: Clock,
 }
 
-#[derive(Clone, Copy)]
-pub enum MaybeNewDeliverySystem {
-    Some(NewDeliverySystem),
-    None,
-}
-
-#[derive(Clone, Copy)]
-pub enum MaybeObsolescentDeliverySystem {
-    Some(ObsolescentDeliverySystem),
-    None,
-}
-
-// A count of 10 bits, and behind it so many systems: refused under a number of the caller's where they pass the end,
+// A count of 10 bits, and behind it so many systems: refused with a fault of the caller's where they pass the end,
 // and then by the first of their clocks that is refused.
-pub fn read_systems(s: &[u8], at: u16, number: u8) -> PartAnswer
+pub fn read_systems(s: &[u8], at: u16, fault: Fault) -> Result<Found<Part>, Refusal>
     requires { Place s.now at }
-    ensures { result ≡ systems_at s.now number at }
+    ensures { result ≡ systems_at s.now fault at }
 {
-    let r = read_part(s, at, number, 80);
-    let PartAnswer::Read { part, .. } = r else {
-        return r;
-    };
-    let count = part.count;
-    let mut i = 0;
-    while i < count {
-        let clock = clock_within(s, (at as usize + 10 + 80 * i + 32) as u16);
-        let ClockAnswer::Read { .. } = clock else {
-            return PartAnswer::Refused(clock_refusal(clock));
-        };
-        i += 1;
+    let list = read_part(s, at, fault, 80)?;
+    for i in 0..list.value.count {
+        clock_within(s, (at as usize + 10 + 80 * i + 32) as u16)?;
     }
-    r
+    Ok(list)
 }
 
-// Whether a body of len bytes, 4,096 at most, holds the element at an index of a list of so many elements of size bytes
-// from start on.
-fn is_within(len: usize, start: usize, count: usize, size: usize, index: usize) -> bool
+// The bit place of the element at an index of a list of elements of size bytes; none where a body of len bytes, 4,096
+// at most, does not hold it.
+fn place_at(len: usize, part: Part, size: usize, index: usize) -> Option<u16>
     requires { (1 ≤ size) × (size ≤ 10) }
-    ensures { result ≡ within len start count size index }
+    ensures { result ≡ place_of len part size index }
 {
-    if 4096 < len {
-        return false;
+    if 4096 < len || part.count <= index || len < part.start || len <= index {
+        return None;
     }
-    if count <= index {
-        return false;
+    let start = part.start + size * index;
+    if len < start + size {
+        return None;
     }
-    if len < start {
-        return false;
-    }
-    if len <= index {
-        return false;
-    }
-    start + size * index + size <= len
+    Some((8 * start) as u16)
 }
 
 // The delivery system id at an index.
-pub fn delivery_system_id_at(body: &[u8], part: Part, index: usize) -> MaybeDeliverySystemId
+pub fn delivery_system_id_at(body: &[u8], part: Part, index: usize) -> Option<u32>
     ensures { result ≡ id_at body.now part index }
 {
-    let there = is_within(body.len(), part.start, part.count, 4, index);
-    if !there {
-        return MaybeDeliverySystemId::None;
-    }
-    let at = (8 * (part.start + 4 * index)) as u16;
-    MaybeDeliverySystemId::Id(value_at(body, at, 32) as u32)
+    let at = place_at(body.len(), part, 4, index)?;
+    Some(value_at(body, at, 32) as u32)
 }
 
-// The new delivery system at an index; none also where its clock is refused, as it may be in a part that was not read.
-pub fn new_delivery_system_at(body: &[u8], part: Part, index: usize) -> MaybeNewDeliverySystem
-    ensures { result ≡ new_at body.now part index }
+// The system at an index, new or obsolescent; none also where its clock is refused, as it may be in a part that was not
+// read.
+fn system_at(body: &[u8], part: Part, index: usize) -> Option<System>
+    ensures { result ≡ system_at body.now part index }
 {
-    let there = is_within(body.len(), part.start, part.count, 10, index);
-    if !there {
-        return MaybeNewDeliverySystem::None;
-    }
-    let at = (8 * (part.start + 10 * index)) as u16;
-    let id = value_at(body, at, 32) as u32;
-    let r = clock_within(body, at + 32);
-    let ClockAnswer::Read { clock, .. } = r else {
-        return MaybeNewDeliverySystem::None;
-    };
-    MaybeNewDeliverySystem::Some(NewDeliverySystem {
-        new_delivery_system_id: id,
-        time_of_application_base: clock.base,
-        time_of_application_ext: clock.ext,
-        reserved_zero_future_use: clock.reserved,
+    let at = place_at(body.len(), part, 10, index)?;
+    let time = clock_within(body, at + 32).ok()?;
+    Some(System {
+        id: value_at(body, at, 32) as u32,
+        time: time.value,
     })
 }
 
-// The obsolescent delivery system at an index, likewise.
+// The new delivery system at an index.
+pub fn new_delivery_system_at(body: &[u8], part: Part, index: usize) -> Option<NewDeliverySystem>
+    ensures { result ≡ new_at body.now part index }
+{
+    let system = system_at(body, part, index)?;
+    Some(NewDeliverySystem {
+        new_delivery_system_id: system.id,
+        time_of_application_base: system.time.base,
+        time_of_application_ext: system.time.ext,
+        reserved_zero_future_use: system.time.reserved,
+    })
+}
+
+// The obsolescent delivery system at an index.
 pub fn obsolescent_delivery_system_at(
     body: &[u8],
     part: Part,
     index: usize,
-) -> MaybeObsolescentDeliverySystem
+) -> Option<ObsolescentDeliverySystem>
     ensures { result ≡ obsolescent_at body.now part index }
 {
-    let there = is_within(body.len(), part.start, part.count, 10, index);
-    if !there {
-        return MaybeObsolescentDeliverySystem::None;
-    }
-    let at = (8 * (part.start + 10 * index)) as u16;
-    let id = value_at(body, at, 32) as u32;
-    let r = clock_within(body, at + 32);
-    let ClockAnswer::Read { clock, .. } = r else {
-        return MaybeObsolescentDeliverySystem::None;
-    };
-    MaybeObsolescentDeliverySystem::Some(ObsolescentDeliverySystem {
-        obsolescent_delivery_system_id: id,
-        time_of_obsolescence_base: clock.base,
-        time_of_obsolescence_ext: clock.ext,
-        reserved_zero_future_use: clock.reserved,
+    let system = system_at(body, part, index)?;
+    Some(ObsolescentDeliverySystem {
+        obsolescent_delivery_system_id: system.id,
+        time_of_obsolescence_base: system.time.base,
+        time_of_obsolescence_ext: system.time.ext,
+        reserved_zero_future_use: system.time.reserved,
     })
 }

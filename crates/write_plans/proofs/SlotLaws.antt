@@ -5,6 +5,7 @@ use mathlib.Core.Path.{◌≡◌, refl, sym, ap, ◌∙◌}
 use mathlib.Core.Bool.{Bool, true, false, cond}
 use mathlib.Core.List.{List, [], ◌∷◌, ◌++◌, append-nil}
 use native.Mathlib.Omega.{arith}
+use Rattle.std.proofs.Common.{Result, Ok, Err}
 use lib.Dec.{leb}
 use lib.ListN.{length, take, drop, length-append}
 use lib.Seq.{drop-drop, length-take-le}
@@ -14,13 +15,14 @@ use Rattle.format.specs.Refusals.{refuse}
 use Rattle.format.specs.Syntax.{Name, Syntax, end, slots, raw, flags, bytes}
 use Rattle.format.specs.Body.{wholes, read_body}
 use Rattle.format.specs.Ledger.{counted_bytes, ledger}
+use Rattle.format.specs.declared.Fault.TheVariants.{SlotsCut}
 use Rattle.format.proofs.DigitLaws.{length_bytes, length_digits}
 use Rattle.format.proofs.Good.{ledger_append}
 use Rattle.format.proofs.ReadLaws.{rest_at, place_at}
 use Rattle.bits.proofs.Splices.{splice_splice, splice_nil}
 use Rattle.runs.specs.Stored.{stored}
-use Rattle.write_runs.specs.declared.Step.{Step}
-use Rattle.write_runs.specs.declared.Step.TheVariants.{Done, Refused}
+use Rattle.format.specs.declared.Refusal.{Refusal}
+use Rattle.runs.specs.declared.Step.{Step}
 use Rattle.runs.proofs.Stores.{stored_length, digits_fit}
 use Rattle.write_runs.specs.Went.{Around, pushes, Went, Stopped, Ran}
 use Rattle.write_runs.proofs.WentLaws.{Same, pushes_append, pushes_got, pushes_refused}
@@ -33,7 +35,7 @@ use Rattle.write_plans.proofs.Packing.{packed_fit}
 
 pub slots_done : {body : List ℕ} {e : Around} (nm : Name) (s : Syntax) {at place m : ℕ} {out out' : List ℕ} → at % 8 ≡ 0 → at + m ≤ 8 * length body
     → out' ≡ stored out place (packed_bits body at m)
-    → Went body e (slots nm 12 m s) at place out s (at + 8 * wholes m) (place + wholes m) out'
+    → Went body e (slots nm SlotsCut m s) at place out s (at + 8 * wholes m) (place + wholes m) out'
 unfolding pushes read_body ledger
 slots_done {body} {e} nm s {at} {place} {m} {out} {out'} a h b =
     let d = drop at (bits_of body) in
@@ -51,7 +53,7 @@ slots_done {body} {e} nm s {at} {place} {m} {out} {out'} a h b =
     }
 
 pub slots_no : (body : List ℕ) (e : Around) (at : ℕ) (nm : Name) (m : ℕ) (s : Syntax) → 8 * length body - at < m
-    → Stopped body e (slots nm 12 m s) at (refuse 12 m (8 * length body - at))
+    → Stopped body e (slots nm SlotsCut m s) at (refuse SlotsCut m (8 * length body - at))
 unfolding read_body
 slots_no body e at nm m s l = record { reads = rw (lt-leb m (length (drop at (bits_of body))) (omega (arith, rest_at body at)), rest_at body at) }
 
@@ -128,14 +130,14 @@ raw_done {body} {out} {out'} {e} {at} {place} {m} nm h q r x =
 -- ---- a plan's last fields
 
 module _ {body : List ℕ} {e : Around} where
-  pub as_ragged : {at place : ℕ} {s : Syntax} {out out' : List ℕ} {r : Step} → Ran body e s at place out (λ _. end) out' r → Ragged body e s at place out out' r
+  pub as_ragged : {at place : ℕ} {s : Syntax} {out out' : List ℕ} {r : Result (Step ℕ) Refusal} → Ran body e s at place out (λ _. end) out' r → Ragged body e s at place out out' r
   unfolding read_body
-  as_ragged {r = Done p a v} x =
+  as_ragged {r = Ok v} x =
       let w = x.to in
       record {
         to = record {
           ts = w.ts;
-          reads = w.reads ∙ pushes_got w.ts (drop a (bits_of body));
+          reads = w.reads ∙ pushes_got w.ts (drop v.at (bits_of body));
           size = w.size;
           bytes = w.bytes;
           long = w.long;
@@ -143,20 +145,20 @@ module _ {body : List ℕ} {e : Around} where
           slack = omega (arith, w.slack);
         };
       }
-  as_ragged {r = Refused f} x = record { to = x.to }
+  as_ragged {r = Err f} x = record { to = x.to }
 
   -- the reading starts in the same way
-  pub ragged_as : {at place : ℕ} {s s₁ : Syntax} {out out' : List ℕ} {r : Step} → Same body e at s s₁ → Ragged body e s₁ at place out out' r → Ragged body e s at place out out' r
-  ragged_as {r = Done p a v} q x =
+  pub ragged_as : {at place : ℕ} {s s₁ : Syntax} {out out' : List ℕ} {r : Result (Step ℕ) Refusal} → Same body e at s s₁ → Ragged body e s₁ at place out out' r → Ragged body e s at place out out' r
+  ragged_as {r = Ok v} q x =
       let t = x.to in
       record { to = record { ts = t.ts; reads = q.reads ∙ t.reads; size = t.size; bytes = t.bytes; long = t.long; within = t.within; slack = t.slack } }
-  ragged_as {r = Refused f} q x = record { to = record { reads = q.reads ∙ x.to.reads } }
+  ragged_as {r = Err f} q x = record { to = record { reads = q.reads ∙ x.to.reads } }
 
   -- the last fields behind others that have two bits to spare
-  pub then_ragged : {at place at₁ place₁ : ℕ} {s s₁ : Syntax} {out out₁ out₂ : List ℕ} {r : Step} → Went body e s at place out s₁ at₁ place₁ out₁
+  pub then_ragged : {at place at₁ place₁ : ℕ} {s s₁ : Syntax} {out out₁ out₂ : List ℕ} {r : Result (Step ℕ) Refusal} → Went body e s at place out s₁ at₁ place₁ out₁
       → place₁ + at + 2 ≤ place + at₁ → Ragged body e s₁ at₁ place₁ out₁ out₂ r → Ran body e s at place out (λ _. end) out₂ r
   unfolding read_body
-  then_ragged {at} {place} {at₁} {place₁} {s} {s₁} {out} {out₁} {out₂} {r = Done p a v} x g y =
+  then_ragged {at} {place} {at₁} {place₁} {s} {s₁} {out} {out₁} {out₂} {r = Ok v} x g y =
       let t = y.to in
       let u = x.ts in
       let w = t.ts in
@@ -166,7 +168,7 @@ module _ {body : List ℕ} {e : Around} where
       record {
         to = record {
           ts = u ++ w;
-          reads = x.reads ∙ ap (pushes u) (t.reads ∙ sym (pushes_got w (drop a (bits_of body)))) ∙ sym (pushes_append u w _);
+          reads = x.reads ∙ ap (pushes u) (t.reads ∙ sym (pushes_got w (drop v.at (bits_of body)))) ∙ sym (pushes_append u w _);
           size = omega arith;
           bytes = λ h. t.bytes (omega (arith, x.long)) ∙ ap (λ (m : List ℕ). splice m place₁ (ledger e.edition w)) (x.bytes (omega arith))
               ∙ splice_splice out place (ledger e.edition u) (ledger e.edition w) place₁ x.size (omega arith) ∙ ap (splice out place) (sym (ledger_append e.edition u w));
@@ -175,5 +177,5 @@ module _ {body : List ℕ} {e : Around} where
           slack = omega (arith, t.slack);
         };
       }
-  then_ragged {r = Refused f} x g y =
-      record { to = record { reads = x.reads ∙ ap (pushes x.ts) y.to.reads ∙ pushes_refused x.ts f.number f.need f.have } }
+  then_ragged {r = Err f} x g y =
+      record { to = record { reads = x.reads ∙ ap (pushes x.ts) y.to.reads ∙ pushes_refused x.ts f.fault f.need f.have } }

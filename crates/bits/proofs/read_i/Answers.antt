@@ -5,11 +5,11 @@ use borrow.Author.Rules.{rules}
 use Rattle.bits.proofs.Answers.{got_lt, signed_got, signed_cut}
 use Rattle.bits.proofs.read_i.Goals as goal
 
-pub returns-in_default : goal.returns-in_default
-returns-in_default c = search signed_cut
+pub returns-in_err-unsigned : goal.returns-in_err-unsigned
+returns-in_err-unsigned c = search (signed_cut, rules)
 
 pub signed_of-requires : goal.signed_of-requires
-signed_of-requires c = (omega arith, omega arith, search got_lt)
+signed_of-requires c = (omega arith, omega arith, search (got_lt, rules))
 
 pub returns : goal.returns
 returns c = search (signed_got, rules)

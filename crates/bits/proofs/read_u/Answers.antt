@@ -10,4 +10,4 @@ returns-then-have-need c = search tests
 
 pub returns : goal.returns
 unfolding read_at
-returns c = search tests
+returns c = rw c.value_at.ensures (search tests)

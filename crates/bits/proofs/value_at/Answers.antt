@@ -9,4 +9,4 @@ returns-then-first-s c =
     let a = c.args in
     let within = c.if-off-bits-le64.true in
     let there = c.if-first-s.true in
-    cut_at a.s.now a.at a.bits c.word_at.result (omega arith) within there c.word_at.ensures.bits
+    cut_at a.s.now a.at a.bits c.bytes_at.result (omega arith) within there c.bytes_at.ensures.bits

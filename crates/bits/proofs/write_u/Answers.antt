@@ -11,4 +11,4 @@ returns-then-width-eq32 c =
     let a = c.args in
     let w : a.width ≡ 32 = c.if-width-eq32.true in
     let p : 8 * (a.at / 8) ≡ a.at = omega arith in
-    rw (p, ← w) at (put_bits _ (a.at / 8) 4 a.v c.put_quad.ensures)
+    rw (p, ← w) at (put_bits _ (a.at / 8) 4 a.v c.put_bytes.ensures)

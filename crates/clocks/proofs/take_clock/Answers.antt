@@ -1,78 +1,50 @@
--- `take_clock` meets its contract: behind each read by the case of its answer, as Fields has them.
+-- `take_clock` meets its contract: behind each read by the case of its answer.
 -- Assumes nothing.
-use Rattle.std.proofs.Common.{arith}
-use Rattle.bits.proofs.Answers.{got_fits}
-use Rattle.clocks.proofs.Fields.{after, cut₁, cut₂, cut₃, whole}
-use Rattle.clocks.proofs.Kept.{skipped, read_there, past, placed}
+use Rattle.std.proofs.Common.{rules, refl}
+use Rattle.format.specs.ByName.{first_by}
+use Rattle.bits.proofs.Reading.{over}
+use Rattle.bit_reader.proofs.Reading.{from_place, at_place, next_reader, took_field, cut_field, took_fits}
+use Rattle.clocks.specs.Inner.{fields_at}
 use Rattle.clocks.proofs.take_clock.Goals as goal
 
-pub returns-in_default : goal.returns-in_default
-returns-in_default c =
-    let t0 = skipped c.new-reader.ensures c.skip.ensures in
-    let a = read_there 33 t0 c.read_u-r.ensures.0 in
-    cut₁ c.args.s.now c.args.at c.requires a c.in_default.is c.refusal_of.ensures
+pub returns-in_err-base : goal.returns-in_err-base
+unfolding fields_at
+returns-in_err-base c =
+    from_place _ _ _ _ _ c.new-reader.ensures c.skip.ensures
+    (cut_field _ _ _ _ _ _ _ _ _ c.in_err-base.was c.read_u.ensures.answer (at_place c.new-reader.ensures c.skip.ensures c.requires) (search rules))
 
-pub read_u-r-requires-2 : goal.read_u-r-requires-2
-read_u-r-requires-2 c =
-    let t0 = skipped c.new-reader.ensures c.skip.ensures in
-    let a = read_there 33 t0 c.read_u-r.ensures.0 in
-    let t1 = past t0 c.read_u-r.ensures.1 c.in-Value.is in
-    (placed t1 (after c.args.s.now c.args.at 33 c.requires a c.in-Value.is), omega arith)
+pub read_u-requires-2 : goal.read_u-requires-2
+read_u-requires-2 c = search (at_place, next_reader, rules)
 
-pub returns-in_default-r : goal.returns-in_default-r
-returns-in_default-r c =
-    let t0 = skipped c.new-reader.ensures c.skip.ensures in
-    let a = read_there 33 t0 c.read_u-r.ensures.0 in
-    let t1 = past t0 c.read_u-r.ensures.1 c.in-Value.is in
-    let b = read_there 6 t1 c.read_u-r-2.ensures.0 in
-    cut₂ c.args.s.now c.args.at c.requires a c.in-Value.is b c.in_default-r.is c.refusal_of-in_default-r.ensures
+pub returns-in_err-reserved : goal.returns-in_err-reserved
+unfolding fields_at
+returns-in_err-reserved c =
+    from_place _ _ _ _ _ c.new-reader.ensures c.skip.ensures
+    (took_field _ _ _ _ _ _ _ _ _ c.read_u.ensures.place c.read_u.ensures.answer c.in_ok-base.was refl refl
+    (cut_field _ _ _ _ _ _ _ _ _ c.in_err-reserved.was c.read_u-2.ensures.answer (search (at_place, next_reader, rules)) (search rules)))
 
-pub read_u-r-requires-3 : goal.read_u-r-requires-3
-read_u-r-requires-3 c =
-    let t0 = skipped c.new-reader.ensures c.skip.ensures in
-    let a = read_there 33 t0 c.read_u-r.ensures.0 in
-    let t1 = past t0 c.read_u-r.ensures.1 c.in-Value.is in
-    let b = read_there 6 t1 c.read_u-r-2.ensures.0 in
-    let t2 = past t1 c.read_u-r-2.ensures.1 c.in-Value-r.is in (
-      placed t2 (after c.args.s.now c.in-Value.next 6 (after c.args.s.now c.args.at 33 c.requires a c.in-Value.is) b c.in-Value-r.is),
-      omega arith,
-    )
+pub read_u-requires-3 : goal.read_u-requires-3
+read_u-requires-3 c = search (at_place, next_reader, rules)
 
-pub returns-in_default-r-2 : goal.returns-in_default-r-2
-returns-in_default-r-2 c =
-    let t0 = skipped c.new-reader.ensures c.skip.ensures in
-    let a = read_there 33 t0 c.read_u-r.ensures.0 in
-    let t1 = past t0 c.read_u-r.ensures.1 c.in-Value.is in
-    let b = read_there 6 t1 c.read_u-r-2.ensures.0 in
-    let t2 = past t1 c.read_u-r-2.ensures.1 c.in-Value-r.is in
-    let d = read_there 9 t2 c.read_u-r-3.ensures.0 in
-    cut₃ c.args.s.now c.args.at c.requires a c.in-Value.is b c.in-Value-r.is d c.in_default-r-2.is c.refusal_of-in_default-r-2.ensures
+pub returns-in_err-ext : goal.returns-in_err-ext
+unfolding fields_at
+returns-in_err-ext c =
+    from_place _ _ _ _ _ c.new-reader.ensures c.skip.ensures
+    (took_field _ _ _ _ _ _ _ _ _ c.read_u.ensures.place c.read_u.ensures.answer c.in_ok-base.was refl refl
+    (took_field _ _ _ _ _ _ _ _ _ c.read_u-2.ensures.place c.read_u-2.ensures.answer c.in_ok-reserved.was refl refl
+    (cut_field _ _ _ _ _ _ _ _ _ c.in_err-ext.was c.read_u-3.ensures.answer (search (at_place, next_reader, rules)) (search rules))))
 
-pub overflow_cast-clock : goal.overflow_cast-clock
-overflow_cast-clock c =
-    let t0 = skipped c.new-reader.ensures c.skip.ensures in
-    let a = read_there 33 t0 c.read_u-r.ensures.0 in
-    let t1 = past t0 c.read_u-r.ensures.1 c.in-Value.is in
-    let b = read_there 6 t1 c.read_u-r-2.ensures.0 in
-    got_fits c.args.s.now c.in-Value.next 6 c.in-Value-r.is b tt
+pub overflow_cast-result : goal.overflow_cast-result
+overflow_cast-result c = took_fits _ 6 c.read_u-2.ensures.answer c.read_u-2.ensures.place c.in_ok-reserved.was tt
 
-pub overflow_cast-clock-2 : goal.overflow_cast-clock-2
-overflow_cast-clock-2 c =
-    let t0 = skipped c.new-reader.ensures c.skip.ensures in
-    let a = read_there 33 t0 c.read_u-r.ensures.0 in
-    let t1 = past t0 c.read_u-r.ensures.1 c.in-Value.is in
-    let b = read_there 6 t1 c.read_u-r-2.ensures.0 in
-    let t2 = past t1 c.read_u-r-2.ensures.1 c.in-Value-r.is in
-    let d = read_there 9 t2 c.read_u-r-3.ensures.0 in
-    got_fits c.args.s.now c.in-Value-r.next 9 c.in-Value-r-2.is d tt
+pub overflow_cast-result-2 : goal.overflow_cast-result-2
+overflow_cast-result-2 c = took_fits _ 9 c.read_u-3.ensures.answer c.read_u-3.ensures.place c.in_ok-ext.was tt
 
 pub returns : goal.returns
+unfolding fields_at first_by
 returns c =
-    let t0 = skipped c.new-reader.ensures c.skip.ensures in
-    let a = read_there 33 t0 c.read_u-r.ensures.0 in
-    let t1 = past t0 c.read_u-r.ensures.1 c.in-Value.is in
-    let b = read_there 6 t1 c.read_u-r-2.ensures.0 in
-    let t2 = past t1 c.read_u-r-2.ensures.1 c.in-Value-r.is in
-    let d = read_there 9 t2 c.read_u-r-3.ensures.0 in
-    let t3 = past t2 c.read_u-r-3.ensures.1 c.in-Value-r-2.is in
-    rw t3.place (whole c.args.s.now c.args.at c.requires a c.in-Value.is b c.in-Value-r.is d c.in-Value-r-2.is)
+    from_place _ _ _ _ _ c.new-reader.ensures c.skip.ensures
+    (took_field _ _ _ _ _ _ _ _ _ c.read_u.ensures.place c.read_u.ensures.answer c.in_ok-base.was refl refl
+    (took_field _ _ _ _ _ _ _ _ _ c.read_u-2.ensures.place c.read_u-2.ensures.answer c.in_ok-reserved.was refl refl
+    (took_field _ _ _ _ _ _ _ _ _ c.read_u-3.ensures.place c.read_u-3.ensures.answer c.in_ok-ext.was refl refl
+    (over _ _ _ _ _ (search (at_place, next_reader, rules)) refl))))

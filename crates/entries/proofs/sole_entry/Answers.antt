@@ -1,55 +1,36 @@
--- `sole_entry` meets its contract: one entry, or the refusal of the one reading.
+-- One entry, or the refusal of the one reading.
 -- Assumes nothing.
-use mathlib.Core.Path.{◌≡◌, refl, sym}
-use native.Mathlib.Omega.{arith}
+use mathlib.Core.Path.{◌≡◌, sym, ap, ◌∙◌}
 use Rattle.format.specs.Tables.{association}
-use Rattle.format.specs.At.{end_of}
-use Rattle.format.specs.declared.EntryEnd.{EntryEnd}
-use Rattle.format.specs.declared.EntryEnd.TheVariants as end
-use Rattle.association.specs.Association.{association_of, association_at, refusal_of}
-use Rattle.association.specs.declared.TimeAssociationAnswer.{TimeAssociationAnswer}
-use Rattle.association.specs.declared.TimeAssociationAnswer.TheVariants.{Entry, Refused}
-use Rattle.entries.proofs.Ends.{given, given_no}
-use Rattle.entries.proofs.Bodies.{seek_sole, seek_not, seek_raw}
+use Rattle.association.specs.Association.{association_of, association_at}
+use Rattle.std.proofs.Common.{Err}
+use Rattle.format.proofs.Passed.{carried}
+use Rattle.entries.specs.Entries.{next_of, walked}
+use Rattle.entries.proofs.Ends.{ends}
+use Rattle.entries.proofs.Bodies.{seek_sole, seek_not, seek_raw, sole_place, sole_first, sole_none}
 use Rattle.entries.proofs.sole_entry.Goals as goal
+use Rattle.entries.proofs.sole_entry.Goals.{then-table_id-eq2+in_ok-read_association, else-table_id-eq2, then-index-eq0, else-index-eq0}
 
-after : TimeAssociationAnswer → EntryEnd
-after (Entry x n) = end.At n
-after (Refused f) = end.Refused f
-
-pub returns-then-table_id-ne2 : goal.returns-then-table_id-ne2
-returns-then-table_id-ne2 c = record {
-  by_index = λ i. seek_raw i _ _ _ c.args.table_id c.requires.s_len_bound c.requires.fact c.if-table_id-ne2.true;
-  sure = record
-      { to = record { short = c.requires.s_len_bound; within = omega arith; byte = refl; on = omega arith } };
-}
-
-pub returns-in_default : goal.returns-in_default
-unfolding end_of after refusal_of association_at
-returns-in_default c =
+pub returns-in_err-read_association-clause-value : goal.returns-in_err-read_association-clause-value
+unfolding association_at
+returns-in_err-read_association-clause-value c =
     let a = c.args in
-    let pre = c.requires in
-    let z : a.table_id ≡ 2 = omega (arith, c.if-table_id-ne2.false) in record {
-      by_index = λ i. rw z
-          (seek_not i _ _ _ _ pre.s_len_bound
-          (sym
-          (given_no _ association _ (λ ts q. end.At q) end.Refused (λ ts q. Entry (association_of ts) q) Refused after (λ ts q. refl) (λ f. refl)
-          refusal_of (λ x. refl) c.read_association-r.ensures c.in_default.is
-          c.association_refusal.ensures)));
-      sure = record { to = tt };
-    }
+    let z : a.table_id ≡ 2 = c.if-table_id-eq2.true in
+    let e = sym (ends a.s.now association 0 association_of c.read_association.ensures) ∙ ap next_of c.in_err-read_association.was in
+    rw (carried c.from_residual.ensures, z) (seek_not a.index walked Err a.s.now _ c.requires.s_len_bound e)
 
-pub returns : goal.returns
-unfolding end_of after association_at
-returns c =
+pub returns-clause-value : goal.returns-clause-value
+unfolding association_at
+returns-clause-value c =
     let a = c.args in
-    let pre = c.requires in
-    let z : a.table_id ≡ 2 = omega (arith, c.if-table_id-ne2.false) in record {
-      by_index = λ i. rw z
-          (seek_sole i _ _ _ _ pre.s_len_bound
-          (sym
-          (given _ association _ (λ ts q. end.At q) end.Refused (λ ts q. Entry (association_of ts) q) Refused after (λ ts q. refl) (λ f. refl)
-          c.read_association-r.ensures c.in-Entry.is refl)));
-      sure = record
-          { to = record { short = pre.s_len_bound; within = omega arith; byte = refl; on = omega arith } };
-    }
+    let p : c.if-index-eq0.result ≡ sole_place a.index = elim c.if-index-eq0.branch [
+      | then-index-eq0 w ↦ w.result-is ∙ sole_first a.index w.if-index-eq0.true
+      | else-index-eq0 w ↦ w.result-is ∙ sole_none a.index w.if-index-eq0.false
+    ] in
+    rw p elim c.if-table_id-eq2.branch [
+      | then-table_id-eq2+in_ok-read_association w ↦
+          let z : a.table_id ≡ 2 = w.if-table_id-eq2.true in
+          let e = sym (ends a.s.now association 0 association_of w.read_association.ensures) ∙ ap next_of w.in_ok-read_association.was in
+          rw z (seek_sole a.index walked Err a.s.now _ c.requires.s_len_bound e)
+      | else-table_id-eq2 w ↦ seek_raw a.index walked Err a.s.now a.table_id c.requires.s_len_bound c.requires.no_list w.if-table_id-eq2.false
+    ]

@@ -1,29 +1,60 @@
--- `entry_ids` meets its contract: a refusal leaves the buffer, and else what was gathered is copied.
+-- A refusal leaves the buffer, and else what was gathered is copied.
 -- Assumes nothing.
-use mathlib.Core.Path.{sym, ◌∙◌}
+use mathlib.Core.Path.{sym, ap, ◌∙◌}
 use lib.ListN.{length}
-use Rattle.entry_ids.proofs.Bodies.{fit_answer, left_no, given_held, given_left}
+use Rattle.std.proofs.lemmas.List.{length-take-le}
+use Rattle.format.proofs.Passed.{carried}
+use Rattle.entry_ids.proofs.Bodies.{answer_no, left_no, answer_yes, left_short, room_for, left_yes}
 use Rattle.entry_ids.proofs.entry_ids.Goals as goal
 
-pub returns-in_default : goal.returns-in_default
-returns-in_default c =
-    let s = c.args in
-    let a = fit_answer s.table_id s.body.now (length s.out.now) c.gather_ids-found.ensures c.fit-answer.ensures in
-    (a, left_no s.table_id s.body.now s.out.now a c.in_default.is)
+pub returns-in_err-ids : goal.returns-in_err-ids
+returns-in_err-ids c =
+    let a = c.args in
+    let g = c.gather_ids.ensures in
+    let m = c.in_err-ids.was in
+    rw (carried c.from_residual.ensures)
+    (answer_no a.table_id a.body.now g (length a.out.now) m, left_no a.table_id a.body.now g a.out.now m)
 
-pub hand_out-requires : goal.hand_out-requires
-hand_out-requires c =
-    let s = c.args in
-    let g = c.gather_ids-found.ensures in
-    let a = fit_answer s.table_id s.body.now (length s.out.now) g c.fit-answer.ensures in
-    let h = given_held s.table_id s.body.now s.out.now a c.in-Done.is g.front in
-    (h.within, h.room)
+pub returns-in_err-output : goal.returns-in_err-output
+returns-in_err-output c =
+    let a = c.args in
+    let g = c.gather_ids.ensures in
+    let m = c.in_ok-ids.was in
+    let e = sym c.in_err-output.was ∙ answer_yes a.table_id a.body.now g m c.len.ensures.value c.fitted.ensures in
+    rw (carried c.from_residual-in_err-output.ensures) (e, left_short a.table_id a.body.now g a.out.now m e)
+
+pub slice_bounds-copy_from_slice-end : goal.slice_bounds-copy_from_slice-end
+slice_bounds-copy_from_slice-end c =
+    let a = c.args in
+    let g = c.gather_ids.ensures in
+    let m = c.in_ok-ids.was in
+    room_for a.table_id a.body.now g a.out.now m c.len-count.ensures.value
+    (sym c.in_ok-output.was ∙ answer_yes a.table_id a.body.now g m c.len.ensures.value c.fitted.ensures)
+
+pub slice_bounds-copy_from_slice-end-2 : goal.slice_bounds-copy_from_slice-end-2
+slice_bounds-copy_from_slice-end-2 c =
+    let a = c.args in
+    let g = c.gather_ids.ensures in
+    let m = c.in_ok-ids.was in
+    let e = sym c.in_ok-output.was ∙ answer_yes a.table_id a.body.now g m c.len.ensures.value c.fitted.ensures in
+    sym (length-take-le _ a.out.now (room_for a.table_id a.body.now g a.out.now m c.len-count.ensures.value e))
+
+pub copy_from_slice-requires : goal.copy_from_slice-requires
+copy_from_slice-requires c =
+    let a = c.args in
+    let g = c.gather_ids.ensures in
+    let m = c.in_ok-ids.was in
+    let s = c.len-count.ensures.value in
+    let e = sym c.in_ok-output.was ∙ answer_yes a.table_id a.body.now g m c.len.ensures.value c.fitted.ensures in
+    let r = room_for a.table_id a.body.now g a.out.now m s e in
+    length-take-le _ a.out.now r ∙ s ∙ ap length (sym c.deref.ensures.0)
 
 pub returns : goal.returns
 returns c =
-    let s = c.args in
-    let g = c.gather_ids-found.ensures in
-    let a = fit_answer s.table_id s.body.now (length s.out.now) g c.fit-answer.ensures in
-    let d = c.in-Done.is in
-    let h = given_held s.table_id s.body.now s.out.now a d g.front in
-    (sym d ∙ a, given_left s.table_id s.body.now s.out.now h c.hand_out.ensures)
+    let a = c.args in
+    let g = c.gather_ids.ensures in
+    let m = c.in_ok-ids.was in
+    let s = c.len-count.ensures.value in
+    let e = sym c.in_ok-output.was ∙ answer_yes a.table_id a.body.now g m c.len.ensures.value c.fitted.ensures in
+    let r = room_for a.table_id a.body.now g a.out.now m s e in
+    (e, left_yes a.table_id a.body.now g a.out.now m s r (c.copy_from_slice.ensures.after ∙ c.deref.ensures.0))

@@ -1,7 +1,16 @@
--- `entry_ids_answer` meets its contract: what was gathered, for a buffer of this length.
+-- What was gathered, held to the buffer's length.
 -- Assumes nothing.
-use Rattle.entry_ids.proofs.Bodies.{fit_answer}
+use Rattle.format.proofs.Passed.{carried}
+use Rattle.entry_ids.proofs.Bodies.{answer_no, answer_yes}
 use Rattle.entry_ids.proofs.entry_ids_answer.Goals as goal
 
+pub returns-in_err-ids : goal.returns-in_err-ids
+returns-in_err-ids c =
+    let a = c.args in
+    rw (carried c.from_residual.ensures)
+    (answer_no a.table_id a.body.now c.gather_ids.ensures a.room c.in_err-ids.was)
+
 pub returns : goal.returns
-returns c = fit_answer _ _ _ c.gather_ids-found.ensures c.fit.ensures
+returns c =
+    let a = c.args in
+    answer_yes a.table_id a.body.now c.gather_ids.ensures c.in_ok-ids.was c.len.ensures.value c.fitted.ensures

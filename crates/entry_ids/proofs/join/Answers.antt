@@ -1,11 +1,12 @@
--- `join` meets its contract, by the answer of `holds`.
+-- By the library's search: one of those that are there, or put behind them.
 -- Assumes nothing.
-use mathlib.Core.Path.{sym, ◌∙◌}
-use Rattle.entry_ids.proofs.Lists.{joined_old, joined_new}
+use Rattle.entry_ids.proofs.Lists.{joined_new, joined_old}
 use Rattle.entry_ids.proofs.join.Goals as goal
 
-pub returns-then-holds : goal.returns-then-holds
-returns-then-holds c = joined_old _ _ _ c.requires (sym c.holds.ensures ∙ c.if-holds.true)
+pub returns-then-not-contains : goal.returns-then-not-contains
+returns-then-not-contains c =
+    joined_new c.args.id c.contains.ensures.value c.deref.ensures.0 c.if-not-contains.true c.push.ensures.items
 
-pub returns : goal.returns
-returns c = joined_new _ _ _ c.requires (sym c.holds.ensures ∙ c.if-holds.false)
+pub returns-else-not-contains : goal.returns-else-not-contains
+returns-else-not-contains c =
+    joined_old c.args.id c.contains.ensures.value c.deref.ensures.0 c.if-not-contains.false

@@ -4,10 +4,10 @@ use Rattle.bits.proofs.Answers.{value_fits}
 use Rattle.ephemeris.proofs.acceleration_at.Goals as goal
 
 pub overflow_cast-result : goal.overflow_cast-result
-overflow_cast-result c = search (value_fits, tt)
+overflow_cast-result c = search value_fits
 
-pub overflow_cast-result-then-accel : goal.overflow_cast-result-then-accel
-overflow_cast-result-then-accel c = search (value_fits, tt)
+pub overflow_cast-result-2 : goal.overflow_cast-result-2
+overflow_cast-result-2 c = search value_fits
 
-pub overflow_cast-result-then-accel-2 : goal.overflow_cast-result-then-accel-2
-overflow_cast-result-then-accel-2 c = search (value_fits, tt)
+pub overflow_cast-result-3 : goal.overflow_cast-result-3
+overflow_cast-result-3 c = search value_fits

@@ -1,31 +1,36 @@
--- `read_covariance` meets its contract, by the flag and by the bits that are there.
+-- `read_covariance` meets its contract, by the flag and by what `enough` answers.
 -- Assumes nothing.
 use Prim.Native.Nat.{◌+◌}
 use mathlib.Core.Path.{sym, ap, ◌∙◌}
-use native.Mathlib.Omega.{arith}
-use Rattle.passing.proofs.Passing.{told_answer, stopped_answer}
+use Rattle.std.specs.Prelude.{Some}
+use Rattle.format.specs.At.{found_at}
+use Rattle.format.proofs.Passed.{carried}
+use Rattle.bit_reader.proofs.Reading.{enough_room}
+use Rattle.passing.proofs.Passing.{flag_tested, stopped_answer}
 use Rattle.ephemeris.specs.Ephemeris.{covariance_at}
 use Rattle.ephemeris.specs.declared.CovarianceData.{CovarianceData}
-use Rattle.ephemeris.specs.declared.MaybeCovariance.TheVariants.{Some}
-use Rattle.ephemeris.specs.declared.CovarianceAnswer.TheVariants.{Read, Refused}
-use Rattle.ephemeris.proofs.Closing.{closed, unclosed, closed_short}
+use Rattle.ephemeris.proofs.Closing.{unclosed, closed_there, closed_short, closed_answer}
 use Rattle.ephemeris.proofs.read_covariance.Goals as goal
 
-pub returns-then-flag-ne1 : goal.returns-then-flag-ne1
-unfolding covariance_at
-returns-then-flag-ne1 c =
+pub returns-then-not-flag : goal.returns-then-not-flag
+returns-then-not-flag c =
     let a = c.args in
-    sym (told_answer Read Refused (unclosed a.s.now a.flag a.at c.if-flag-ne1.true (omega arith)))
+    sym (closed_answer _ _ _ _ _ (unclosed a.s.now _ a.at (flag_tested a.flag c.if-not-flag.true) c.requires.within))
 
-pub returns-then-have-lt728 : goal.returns-then-have-lt728
+pub returns-in_err-enough : goal.returns-in_err-enough
 unfolding covariance_at
-returns-then-have-lt728 c =
+returns-in_err-enough c =
     let a = c.args in
-    sym (stopped_answer _ Read Refused (closed_short a.s.now a.flag a.at c.if-flag-ne1.false (omega arith)))
+    let h = flag_tested a.flag c.if-not-flag.false in
+    carried c.from_residual.ensures
+    ∙ sym (stopped_answer _ (closed_short a.s.now _ a.at h c.enough.ensures c.in_err-enough.was))
+
+pub covariance_at-requires : goal.covariance_at-requires
+covariance_at-requires c = enough_room _ _ _ _ c.enough.ensures c.in_ok-enough.was c.requires
 
 pub returns : goal.returns
-unfolding covariance_at
 returns c =
     let a = c.args in
-    ap (λ (t : CovarianceData). Read (Some t) (a.at + 728)) c.covariance_at.ensures
-    ∙ sym (told_answer Read Refused (closed a.s.now a.flag a.at c.if-flag-ne1.false (omega arith)))
+    let h = flag_tested a.flag c.if-not-flag.false in
+    ap (λ (t : CovarianceData). found_at (Some t) (a.at + 728)) c.covariance_at.ensures
+    ∙ sym (closed_answer _ _ _ _ _ (closed_there a.s.now _ a.at h c.enough.ensures c.requires c.in_ok-enough.was))

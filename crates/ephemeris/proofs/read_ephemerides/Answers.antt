@@ -1,48 +1,46 @@
 -- `read_ephemerides` meets its contract: the count, and the room for the entries.
 -- Assumes nothing.
-use mathlib.Core.Path.{sym, ap, ◌∙◌}
+use mathlib.Core.Path.{◌∙◌}
 use native.Mathlib.Omega.{arith}
-use Rattle.bits.specs.Read.{refusal_of}
 use Rattle.bits.proofs.Answers.{Got, got_all, cut_all, got_lt}
-use Rattle.passing.proofs.Passing.{stopped_answer}
-use Rattle.parts.specs.declared.PartAnswer.TheVariants.{Read, Refused}
-use Rattle.ephemeris.specs.Ephemeris.{ephemerides_at}
-use Rattle.ephemeris.proofs.Entries.{count_short, listed_answer, short_answer, entries_small}
+use Rattle.ephemeris.proofs.Entries.{uncounted_answer, listed_answer, short_answer, width_bits, entries_small}
+use Rattle.format.proofs.Passed.{carried}
 use Rattle.ephemeris.proofs.read_ephemerides.Goals as goal
-use Rattle.ephemeris.proofs.read_ephemerides.Goals.{In-Value}
+use Rattle.ephemeris.proofs.read_ephemerides.Goals.{In_ok-counted}
 
 -- the count that was read
-counted : (c : In-Value) → let a = c.args in
-    Got a.s.now a.at 16 c.in-Value.value c.in-Value.next
-counted c = got_all _ _ 16 _ _ c.read_u-r.ensures c.in-Value.is
+counted : (c : In_ok-counted) → let a = c.args in
+    Got a.s.now a.at 16 c.in_ok-counted.counted
+counted c = got_all _ _ 16 c.read_u.ensures c.in_ok-counted.was
 
-pub returns-in_default : goal.returns-in_default
-unfolding ephemerides_at refusal_of
-returns-in_default c =
+pub returns-in_err-counted : goal.returns-in_err-counted
+returns-in_err-counted c =
     let a = c.args in
-    let m = c.in_default.is in
-    let o = cut_all _ a.at 16 _ c.read_u-r.ensures m in
-    ap Refused (c.refusal_of.ensures ∙ ap refusal_of m ∙ o.why)
-    ∙ sym (stopped_answer _ Read Refused (count_short a.s.now a.accel a.at (omega arith) o.short))
+    let o = cut_all _ a.at 16 _ c.read_u.ensures c.in_err-counted.was in
+    carried c.from_residual.ensures ∙ uncounted_answer a.s.now _ a.at o c.requires.within
 
 pub overflow_mul-need : goal.overflow_mul-need
 overflow_mul-need c =
-    let l = got_lt _ _ 16 c.in-Value.is c.read_u-r.ensures in
-    record { fits = omega (arith, entries_small c.args.accel l c.entry_bits-size.ensures) }
+    let l = got_lt _ _ 16 c.in_ok-counted.was c.read_u.ensures in
+    let w = width_bits c.args.accel c.entry_bits-size.ensures in
+    record { fits = omega (arith, entries_small _ l w) }
 
 pub overflow_sub-have : goal.overflow_sub-have
-overflow_sub-have c = omega (arith, (counted (goal.at.overflow_sub-have c).In-Value).there, (counted (goal.at.overflow_sub-have c).In-Value).next)
+overflow_sub-have c =
+    omega (
+      arith,
+      (counted (goal.at.overflow_sub-have c).In_ok-counted).there,
+      (counted (goal.at.overflow_sub-have c).In_ok-counted).next,
+    )
 
 pub returns-then-have-need : goal.returns-then-have-need
 returns-then-have-need c =
-    let g = counted (goal.at.returns-then-have-need c).In-Value in
+    let g = counted (goal.at.returns-then-have-need c).In_ok-counted in
     let a = c.args in
-    short_answer a.s.now a.accel a.at g.value g.next c.entry_bits-size.ensures (omega (arith, g.there, g.next))
-    c.if-have-need.true
+    short_answer a.s.now _ a.at g (width_bits a.accel c.entry_bits-size.ensures) c.if-have-need.true
 
 pub returns : goal.returns
 returns c =
-    let g = counted (goal.at.returns c).In-Value in
+    let g = counted (goal.at.returns c).In_ok-counted in
     let a = c.args in
-    listed_answer a.s.now a.accel a.at g.value g.next c.entry_bits-size.ensures (omega (arith, g.there, g.next))
-    c.if-have-need.false
+    listed_answer a.s.now _ a.at g (width_bits a.accel c.entry_bits-size.ensures) c.if-have-need.false

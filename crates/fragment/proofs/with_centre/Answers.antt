@@ -1,14 +1,29 @@
--- `with_centre` meets its contract: the centre is tested as a whole, and the lists stand behind its 76 bits.
+-- `with_centre` meets its contract: by the test that the centre is there.
 -- Assumes nothing.
-use Rattle.bits.proofs.Reading.{reading}
+use Rattle.std.proofs.Common.{arith, rules}
+use Rattle.format.proofs.Passed.{carried}
+use Rattle.bit_reader.proofs.Reading.{groups, enough_room}
 use Rattle.fragment.specs.Inner.{with_at}
 use Rattle.fragment.proofs.Steps.{with_lists}
 use Rattle.fragment.proofs.with_centre.Goals as goal
 
-pub returns-then-have-lt76 : goal.returns-then-have-lt76
+pub returns-in_err-enough : goal.returns-in_err-enough
 unfolding with_at
-returns-then-have-lt76 c = search reading depth 20
+returns-in_err-enough c = search (groups, carried, c.in_err-enough.was, rules)
+
+pub centre_at-requires : goal.centre_at-requires
+centre_at-requires c = enough_room _ _ 76 _ c.enough.ensures c.in_ok-enough.was c.requires
+
+pub overflow_add-at : goal.overflow_add-at
+overflow_add-at c =
+    let there = enough_room _ _ 76 _ c.enough.ensures c.in_ok-enough.was c.requires in
+    record { fits = omega arith }
+
+pub around_lists-requires : goal.around_lists-requires
+around_lists-requires c =
+    let there = enough_room _ _ 76 _ c.enough.ensures c.in_ok-enough.was c.requires in
+    record { short = there.short; within = there.fits }
 
 pub returns : goal.returns
 returns c =
-    with_lists _ _ _ _ c.if-have-lt76.false c.centre_at.ensures c.around_lists.ensures
+    with_lists _ _ _ _ (enough_room _ _ 76 _ c.enough.ensures c.in_ok-enough.was c.requires) c.centre_at.ensures c.around_lists.ensures

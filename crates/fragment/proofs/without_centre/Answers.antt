@@ -1,28 +1,30 @@
--- `without_centre` meets its contract: the lists stand behind four reserved bits.
+-- `without_centre` meets its contract: by the case of the reserved bits.
 -- Assumes nothing.
+use Rattle.std.proofs.Common.{rules}
 use Rattle.format.specs.ByName.{first_by}
 use Rattle.format.specs.Syntax.{unsigned}
 use Rattle.bits.proofs.Answers.{next_place, got_fits, got_all}
 use Rattle.bits.proofs.Reading.{reading, got}
+use Rattle.format.proofs.Passed.{carried}
 use Rattle.fragment.specs.Inner.{without_at}
 use Rattle.fragment.proofs.Steps.{without_lists}
 use Rattle.fragment.proofs.without_centre.Goals as goal
 
-pub returns-in_default : goal.returns-in_default
+pub returns-in_err-reserved : goal.returns-in_err-reserved
 unfolding without_at
-returns-in_default c = search reading depth 20
+returns-in_err-reserved c = search (reading, carried, c.in_err-reserved.was, rules)
 
-pub overflow_cast-reserved : goal.overflow_cast-reserved
-overflow_cast-reserved c = search got_fits
+pub overflow_cast-front : goal.overflow_cast-front
+overflow_cast-front c = search (got_fits, c.in_ok-reserved.was, rules)
 
 pub around_lists-requires : goal.around_lists-requires
-around_lists-requires c = search next_place
+around_lists-requires c = next_place _ 4 c.in_ok-reserved.was c.read_u.ensures c.requires.short
 
 pub returns : goal.returns
 unfolding without_at first_by
 returns c =
     let a = c.args in
-    let m = c.in-Value.is in
-    let e = c.read_u-v.ensures in
+    let m = c.in_ok-reserved.was in
+    let e = c.read_u.ensures in
     got _ 0 a.at _ _ unsigned "reserved_zero_future_use_4" 4 _ e m
-    (without_lists _ _ _ _ _ _ (got_all _ _ 4 _ _ e m).next c.around_lists.ensures)
+    (without_lists _ _ _ _ _ _ (got_all _ _ 4 e m).next c.around_lists.ensures)

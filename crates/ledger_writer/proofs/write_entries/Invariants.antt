@@ -2,12 +2,11 @@
 -- Assumes nothing.
 use Prim.Native.Nat.{◌-◌, ◌*◌}
 use lib.ListN.{length}
-use Rattle.format.specs.Whole.{edition_for}
 use Rattle.ledger_writer.proofs.Listing.{Listing}
 use Rattle.ledger_writer.proofs.write_entries.Given as goal
 
 abbrev pub invariant-loop-at : goal.invariant-loop-at
-invariant-loop-at l = Listing (edition_for l.version) l.body l.table_id l.start l.place l.initial.out l.at l.there l.count l.out
+invariant-loop-at l = Listing l.edition l.body l.table_id l.start l.place l.initial.out l.at l.there l.count l.out
 
 abbrev pub decreases-loop-at : goal.decreases-loop-at
 decreases-loop-at l = 8 * length l.body - l.at

@@ -1,33 +1,24 @@
 -- `write_entry`: the entry writer of each table id.
 -- Assumes nothing.
+use native.Mathlib.Omega.{arith}
 use borrow.Author.Tests.{eq-eqb, ne_eqb}
-use Rattle.format.specs.Whole.{edition_for}
 use Rattle.write_runs.specs.Went.{outside}
 use Rattle.ledger_writer.proofs.write_entry.Goals as goal
 
-pub returns-then-table_id-eq0 : goal.returns-then-table_id-eq0
-returns-then-table_id-eq0 c =
-    let a = c.args in
-    rw (eq-eqb a.table_id 0 c.if-table_id-eq0.true) (c.write_position.ensures (outside (edition_for a.version)))
+pub returns-in-0 : goal.returns-in-0
+returns-in-0 c = let id = c.args.table_id in rw (eq-eqb id 0 (omega arith)) (c.write_position.ensures (outside c.args.edition))
 
-pub returns-then-table_id-eq1 : goal.returns-then-table_id-eq1
-returns-then-table_id-eq1 c =
-    let a = c.args in
-    rw (
-      ne_eqb a.table_id 0 c.if-table_id-eq0.false,
-      eq-eqb a.table_id 1
-          c.if-table_id-eq1.true,
-    )
-    (c.write_fragment.ensures (outside (edition_for a.version)))
+pub returns-in-1 : goal.returns-in-1
+returns-in-1 c =
+    let id = c.args.table_id in
+    rw (ne_eqb id 0 (λ e. omega arith), eq-eqb id 1 (omega arith)) (c.write_fragment.ensures (outside c.args.edition))
 
-pub returns : goal.returns
-returns c =
-    let a = c.args in
-    let if1 = c.if-table_id-eq0 in
-    rw (
-      ne_eqb a.table_id 0 if1.false,
-      ne_eqb a.table_id 1 c.if-table_id-eq1.false,
-      ne_eqb a.table_id 3
-          c.if-table_id-eq3.false,
-    )
-    (c.write_position3.ensures (outside (edition_for a.version)))
+pub returns-in-3 : goal.returns-in-3
+returns-in-3 c =
+    let id = c.args.table_id in
+    rw (ne_eqb id 0 (λ e. omega arith), ne_eqb id 1 (λ e. omega arith), eq-eqb id 3 (omega arith)) c.write_plan.ensures
+
+pub returns-in_default : goal.returns-in_default
+returns-in_default c =
+    let id = c.args.table_id in
+    rw (ne_eqb id 0 (λ e. omega arith), ne_eqb id 1 (λ e. omega arith), ne_eqb id 3 (λ e. omega arith)) (c.write_position3.ensures (outside c.args.edition))

@@ -1,31 +1,38 @@
--- `read_usable` meets its contract, by the flag and by the bits that are there.
+-- `read_usable` meets its contract, by the flag and by what `enough` answers.
 -- Assumes nothing.
 use Prim.Native.Nat.{◌+◌}
 use mathlib.Core.Path.{sym, ap, ◌∙◌}
-use native.Mathlib.Omega.{arith}
-use Rattle.passing.proofs.Passing.{told_answer, stopped_answer}
+use Rattle.std.specs.Prelude.{Some}
+use Rattle.format.specs.At.{found_at}
+use Rattle.format.proofs.Passed.{carried}
+use Rattle.bit_reader.proofs.Reading.{enough_room}
+use Rattle.passing.proofs.Passing.{flag_tested, told_answer, stopped_answer}
 use Rattle.metadata.specs.Metadata.{usable_at}
 use Rattle.metadata.specs.declared.UsableTime.{UsableTime}
-use Rattle.metadata.specs.declared.MaybeUsableTime.TheVariants.{Some}
-use Rattle.metadata.specs.declared.UsableAnswer.TheVariants.{Read, Refused}
-use Rattle.metadata.proofs.Times.{used, unused, used_short}
+use Rattle.metadata.proofs.Times.{unused, used_there, used_short}
 use Rattle.metadata.proofs.read_usable.Goals as goal
 
-pub returns-then-flag-ne1 : goal.returns-then-flag-ne1
+pub returns-then-not-flag : goal.returns-then-not-flag
 unfolding usable_at
-returns-then-flag-ne1 c =
+returns-then-not-flag c =
     let a = c.args in
-    sym (told_answer Read Refused (unused a.s.now a.number a.flag a.at c.if-flag-ne1.true (omega arith)))
+    sym (told_answer _ _ (unused a.s.now a.fault _ a.at (flag_tested a.flag c.if-not-flag.true) c.requires.within))
 
-pub returns-then-have-lt56 : goal.returns-then-have-lt56
+pub returns-in_err-enough : goal.returns-in_err-enough
 unfolding usable_at
-returns-then-have-lt56 c =
+returns-in_err-enough c =
     let a = c.args in
-    sym (stopped_answer _ Read Refused (used_short a.s.now a.number a.flag a.at c.if-flag-ne1.false (omega arith)))
+    let h = flag_tested a.flag c.if-not-flag.false in
+    carried c.from_residual.ensures
+    ∙ sym (stopped_answer _ (used_short a.s.now a.fault _ a.at h c.enough.ensures c.in_err-enough.was))
+
+pub usable_at-requires : goal.usable_at-requires
+usable_at-requires c = enough_room _ _ _ _ c.enough.ensures c.in_ok-enough.was c.requires
 
 pub returns : goal.returns
 unfolding usable_at
 returns c =
     let a = c.args in
-    ap (λ (t : UsableTime). Read (Some t) (a.at + 56)) c.usable_at.ensures
-    ∙ sym (told_answer Read Refused (used a.s.now a.number a.flag a.at c.if-flag-ne1.false (omega arith)))
+    let h = flag_tested a.flag c.if-not-flag.false in
+    ap (λ (t : UsableTime). found_at (Some t) (a.at + 56)) c.usable_at.ensures
+    ∙ sym (told_answer _ _ (used_there a.s.now a.fault _ a.at h c.enough.ensures c.requires c.in_ok-enough.was))

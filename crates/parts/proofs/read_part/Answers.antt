@@ -1,30 +1,43 @@
 -- `read_part` meets its contract, by the case of the count and the test of what it counts.
 -- Assumes nothing.
-use native.Mathlib.Omega.{arith}
+use Rattle.std.proofs.Common.{arith, rules}
 use native.Mathlib.Nat.{mul-le-mul_left}
 use Rattle.format.specs.ByName.{first_by}
-use Rattle.bits.proofs.Answers.{next_place, got_lt}
+use Rattle.bits.proofs.Answers.{got_lt, next_place}
 use Rattle.bits.proofs.Reading.{reading}
+use Rattle.format.proofs.Passed.{carried}
+use Rattle.bit_reader.proofs.Reading.{groups, enough_room}
 use Rattle.parts.specs.Parts.{part_at}
 use Rattle.parts.proofs.read_part.Goals as goal
 
-pub returns-in_default : goal.returns-in_default
+pub returns-in_err-found : goal.returns-in_err-found
 unfolding part_at
-returns-in_default c = search reading depth 20
+returns-in_err-found c = search (reading, carried, c.in_err-found.was, rules)
 
-pub overflow_mul-need : goal.overflow_mul-need
-overflow_mul-need c =
-    let v = got_lt _ _ 10 c.in-Value.is c.read_u-r.ensures in
-    record { fits = omega (arith, v, mul-le-mul_left c.in-Value.value c.requires.bits_bound) }
+pub overflow_mul-size : goal.overflow_mul-size
+overflow_mul-size c =
+    let v = got_lt _ _ 10 c.in_ok-found.was c.read_u.ensures in
+    record { fits = omega (arith, v, mul-le-mul_left c.in_ok-found.found.value c.requires.bits_bound) }
 
-pub overflow_sub-have : goal.overflow_sub-have
-overflow_sub-have c =
-    omega (arith, next_place c.args.at 10 c.in-Value.is c.read_u-r.ensures c.requires.place.short)
+pub enough-requires : goal.enough-requires
+enough-requires c = next_place _ 10 c.in_ok-found.was c.read_u.ensures c.requires.place.short
 
-pub returns-then-have-need : goal.returns-then-have-need
+pub returns-in_err-enough : goal.returns-in_err-enough
 unfolding part_at first_by
-returns-then-have-need c = search reading depth 20
+returns-in_err-enough c = search (reading, groups, carried, c.in_ok-found.was, c.in_err-enough.was, rules)
+
+pub overflow_add-result : goal.overflow_add-result
+overflow_add-result c =
+    let from = next_place _ 10 c.in_ok-found.was c.read_u.ensures c.requires.place.short in
+    let all_there = enough_room _ _ _ _ c.enough.ensures c.in_ok-enough.was from in
+    record { fits = omega arith }
+
+pub overflow_cast-result-3 : goal.overflow_cast-result-3
+overflow_cast-result-3 c =
+    let from = next_place _ 10 c.in_ok-found.was c.read_u.ensures c.requires.place.short in
+    let all_there = enough_room _ _ _ _ c.enough.ensures c.in_ok-enough.was from in
+    record { fits = omega arith }
 
 pub returns : goal.returns
 unfolding part_at first_by
-returns c = search reading depth 20
+returns c = search (reading, groups, c.in_ok-found.was, c.in_ok-enough.was, rules)

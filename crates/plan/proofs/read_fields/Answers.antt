@@ -1,81 +1,91 @@
 -- `read_fields` meets its contract: one step a field, then the mode's.
 -- Assumes nothing.
-use mathlib.Core.Path.{refl}
+use mathlib.Core.Path.{◌∙◌}
 use native.Mathlib.Omega.{arith}
-use Rattle.format.specs.Syntax.{unsigned}
+use Rattle.format.proofs.Passed.{carried}
+use Rattle.format.specs.Tables.{hopping}
+use Rattle.bits.specs.Read.{Place}
 use Rattle.bits.proofs.Answers.{next_place, got_fits}
-use Rattle.bits.proofs.Reading.{reading, got}
-use Rattle.clocks.proofs.Clocks.{clocks, clock_place, got_clock, cut_clock}
+use Rattle.clocks.proofs.Clocks.{clock_place}
+use Rattle.plan_modes.proofs.Reached.{start, number, no_number, clocked, no_clock}
 use Rattle.plan.specs.Plan.{fields_at}
-use Rattle.plan.proofs.Fields.{Front, front_of, place_of, got_mode, cut_mode}
+use Rattle.plan.proofs.Fields.{Front, front_of, got_mode, cut_mode}
 use Rattle.plan.proofs.read_fields.Goals as goal
-use Rattle.plan.proofs.read_fields.Goals.{In-Read-k}
+use Rattle.plan.proofs.read_fields.Goals.{In_ok-kept, In_ok-kind, In_ok-cycle}
 
--- what is known behind the four fields in front of the mode
-front : (c : In-Read-k) →
-    Front c.args.s.now c.args.end c.args.head c.args.at c.in-Read-k.next c.in-Value.kept
-    c.in-Value-r.kind
-    c.in-Read.start c.in-Read-k.cycle
+-- the places behind the first two fields, and what is known behind the four in front of the mode
+second : (c : In_ok-kept) → Place c.args.s.now c.in_ok-kept.kept.next
+second c = next_place _ 6 c.in_ok-kept.was c.read_u.ensures c.requires.place.short
+
+third : (c : In_ok-kind) → Place c.args.s.now c.in_ok-kind.kind.next
+third c = next_place _ 2 c.in_ok-kind.was c.read_u-2.ensures c.requires.place.short
+
+front : (c : In_ok-cycle) →
+    Front c.args.s.now c.args.end c.args.head c.args.at c.in_ok-cycle.cycle.next
+    c.in_ok-kept.kept.value c.in_ok-kind.kind.value
+    c.in_ok-start.start.value c.in_ok-cycle.cycle.value
 front c =
-    front_of c.args.end c.args.head c.args.at c.requires.place c.read_u-r.ensures c.in-Value.is
-    c.read_u-r-2.ensures c.in-Value-r.is c.read_clock-k.ensures c.in-Read.is
-    c.read_clock-k-2.ensures c.in-Read-k.is
+    front_of c.args.end c.args.head c.args.at c.requires.place c.read_u.ensures c.in_ok-kept.was
+    c.read_u-2.ensures c.in_ok-kind.was
+    c.read_clock.ensures c.in_ok-start.was c.read_clock-2.ensures c.in_ok-cycle.was
 
-pub returns-in_default : goal.returns-in_default
+pub returns-in_err-kept : goal.returns-in_err-kept
 unfolding fields_at
-returns-in_default c = search reading depth 20
+returns-in_err-kept c =
+    carried c.from_residual.ensures
+    ∙ no_number (start hopping _ _ _ c.requires.place) c.read_u.ensures c.in_err-kept.was
 
-pub read_u-r-requires-2 : goal.read_u-r-requires-2
-read_u-r-requires-2 c = record { place = search next_place; bits_bound = omega arith }
+pub read_u-requires-2 : goal.read_u-requires-2
+read_u-requires-2 c = record { place = second (goal.at.read_u-requires-2 c).In_ok-kept; bits_bound = omega arith }
 
-pub returns-in_default-r : goal.returns-in_default-r
+pub returns-in_err-kind : goal.returns-in_err-kind
 unfolding fields_at
-returns-in_default-r c = search reading depth 20
+returns-in_err-kind c =
+    let t1 = number (start hopping _ _ _ c.requires.place) c.read_u.ensures c.in_ok-kept.was in
+    carried c.from_residual-in_err-kind.ensures ∙ no_number t1 c.read_u-2.ensures c.in_err-kind.was
 
-pub read_clock-k-requires : goal.read_clock-k-requires
-read_clock-k-requires c = search next_place
+pub read_clock-requires : goal.read_clock-requires
+read_clock-requires c = third (goal.at.read_clock-requires c).In_ok-kind
 
-pub returns-in_default-k : goal.returns-in_default-k
+pub returns-in_err-start : goal.returns-in_err-start
 unfolding fields_at
-returns-in_default-k c = search (reading, clocks) depth 20
+returns-in_err-start c =
+    let t1 = number (start hopping _ _ _ c.requires.place) c.read_u.ensures c.in_ok-kept.was in
+    let t2 = number t1 c.read_u-2.ensures c.in_ok-kind.was in
+    carried c.from_residual-in_err-start.ensures
+    ∙ no_clock "time_of_application" t2 c.read_clock.ensures c.in_err-start.was
 
-pub read_clock-k-requires-2 : goal.read_clock-k-requires-2
-read_clock-k-requires-2 c = search (next_place, clock_place)
+pub read_clock-requires-2 : goal.read_clock-requires-2
+read_clock-requires-2 c =
+    clock_place _ c.in_ok-start.was c.read_clock.ensures (third (goal.at.read_clock-requires-2 c).In_ok-kind)
 
-pub returns-in_default-k-2 : goal.returns-in_default-k-2
+pub returns-in_err-cycle : goal.returns-in_err-cycle
 unfolding fields_at
-returns-in_default-k-2 c =
-    let e = c.args.end in
-    let e1 = c.read_u-r.ensures in
-    let m1 = c.in-Value.is in
-    let e2 = c.read_u-r-2.ensures in
-    let m2 = c.in-Value-r.is in
-    let e3 = c.read_clock-k.ensures in
-    let m3 = c.in-Read.is in
-    let l = place_of c.args.at c.requires.place e1 m1 e2 m2 in
-    got _ e c.args.at _ _ unsigned "reserved_zero_future_use_mode" 6 _ e1 m1
-    (got _ e _ _ _ unsigned "time_plan_mode" 2 _ e2 m2
-    (got_clock _ e _ _ _ "time_of_application" _ e3 m3 l
-    (cut_clock _ e _ _ _ "cycle_duration" _ c.read_clock-k-2.ensures c.in_default-k-2.is c.clock_refusal-in_default-k-2.ensures (clock_place _ m3 e3 l) refl)))
+returns-in_err-cycle c =
+    let t1 = number (start hopping _ _ _ c.requires.place) c.read_u.ensures c.in_ok-kept.was in
+    let t2 = number t1 c.read_u-2.ensures c.in_ok-kind.was in
+    let t3 = clocked "time_of_application" t2 c.read_clock.ensures c.in_ok-start.was in
+    carried c.from_residual-in_err-cycle.ensures
+    ∙ no_clock "cycle_duration" t3 c.read_clock-2.ensures c.in_err-cycle.was
 
-pub read_mode-m-requires : goal.read_mode-m-requires
-read_mode-m-requires c =
-    let pre = c.requires in
-    record { place = (front (goal.at.read_mode-m-requires c).In-Read-k).place; at_value = omega (arith, (front (goal.at.read_mode-m-requires c).In-Read-k).start, pre.at_value) }
+pub read_mode-requires : goal.read_mode-requires
+read_mode-requires c =
+    let t = front (goal.at.read_mode-requires c).In_ok-cycle in
+    record { place = t.reached.place; at_value = omega (arith, t.begins, c.requires.at_value) }
 
-pub returns-in_default-m : goal.returns-in_default-m
-returns-in_default-m c =
-    let t = front (goal.at.returns-in_default-m c).In-Read-k in
-    cut_mode _ _ _ _ _ _ _ _ _ t c.read_mode-m.ensures c.in_default-m.is c.mode_refusal.ensures refl
+pub returns-in_err-mode : goal.returns-in_err-mode
+returns-in_err-mode c =
+    carried c.from_residual-in_err-mode.ensures
+    ∙ cut_mode _ _ _ _ _ _ _ _ _ (front (goal.at.returns-in_err-mode c).In_ok-cycle)
+    c.read_mode.ensures c.in_err-mode.was
 
 pub overflow_cast-kept : goal.overflow_cast-kept
-overflow_cast-kept c =
-    got_fits _ _ 6 c.in-Value.is c.read_u-r.ensures tt
+overflow_cast-kept c = got_fits _ _ 6 c.in_ok-kept.was c.read_u.ensures tt
 
 pub overflow_cast-kind : goal.overflow_cast-kind
-overflow_cast-kind c = search (got_fits, tt)
+overflow_cast-kind c = got_fits _ _ 2 c.in_ok-kind.was c.read_u-2.ensures tt
 
 pub returns : goal.returns
 returns c =
-    let t = front (goal.at.returns c).In-Read-k in
-    got_mode _ _ _ _ _ _ _ _ _ t c.read_mode-m.ensures c.in-Mode.is c.plan_of-plan.ensures refl
+    got_mode _ _ _ _ _ _ _ _ _ (front (goal.at.returns c).In_ok-cycle) c.read_mode.ensures
+    c.in_ok-mode.was c.plan_of-plan.ensures

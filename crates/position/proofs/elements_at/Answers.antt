@@ -3,9 +3,9 @@
 use Prim.Native.Nat.{◌+◌}
 use native.Mathlib.Omega.{arith}
 use Rattle.format.specs.ByName.{first_by}
+use Rattle.format.specs.At.{found_at}
 use Rattle.bits.proofs.Answers.{value_fits}
 use Rattle.position.specs.declared.PositionSystem.TheVariants.{Sgp4}
-use Rattle.position.specs.declared.SystemAnswer.TheVariants.{Read}
 use Rattle.position.proofs.Systems.{elements_there}
 use Rattle.position.proofs.elements_at.Goals as goal
 
@@ -50,7 +50,7 @@ unfolding first_by
 returns c =
     let a = c.args in
     elements_there _ a.at (omega arith)
-    (λ i. Read
+    (λ i. found_at
     (Sgp4
     (c.value_at.ensures i)
     (c.value_at-2.ensures i)

@@ -1,30 +1,45 @@
--- `read_orbital` meets its contract, by the test that it makes and the fields behind it.
+-- `read_orbital` meets its contract: by the test that all of it is there.
 -- Assumes nothing.
-use Prim.Native.Nat.{◌+◌}
-use native.Mathlib.Omega.{arith}
+use Rattle.std.proofs.Common.{◌+◌, arith, rules}
 use lib.Dec.{eqb}
 use Rattle.format.specs.ByName.{first_by}
+use Rattle.format.specs.At.{found_at}
 use Rattle.bits.proofs.Answers.{value_fits}
-use Rattle.bits.proofs.Reading.{reading}
+use Rattle.format.proofs.Passed.{carried}
+use Rattle.bit_reader.proofs.Reading.{groups, enough_room}
 use Rattle.position.specs.Satellite.{orbital_at}
 use Rattle.position.specs.declared.PositionSystem.TheVariants.{Orbital}
-use Rattle.position.specs.declared.SystemAnswer.TheVariants.{Read}
 use Rattle.position.proofs.Systems.{orbital_there}
 use Rattle.position.proofs.read_orbital.Goals as goal
 
-pub returns-then-have-lt24 : goal.returns-then-have-lt24
+pub returns-in_err-enough : goal.returns-in_err-enough
 unfolding orbital_at
-returns-then-have-lt24 c = search reading
+returns-in_err-enough c = search (groups, carried, c.in_err-enough.was, rules)
 
-pub overflow_cast-position : goal.overflow_cast-position
-overflow_cast-position c = search value_fits
+pub value_at-requires-clause-room : goal.value_at-requires-clause-room
+value_at-requires-clause-room c =
+    let there = enough_room _ _ _ _ c.enough.ensures c.in_ok-enough.was c.requires in
+    record { short = there.short; fits = omega arith }
 
-pub overflow_cast-position-2 : goal.overflow_cast-position-2
-overflow_cast-position-2 c = search value_fits
+pub value_at-requires-2-clause-room : goal.value_at-requires-2-clause-room
+value_at-requires-2-clause-room c =
+    let there = enough_room _ _ _ _ c.enough.ensures c.in_ok-enough.was c.requires in
+    record { short = there.short; fits = omega arith }
+
+pub value_at-requires-3-clause-room : goal.value_at-requires-3-clause-room
+value_at-requires-3-clause-room c =
+    let there = enough_room _ _ _ _ c.enough.ensures c.in_ok-enough.was c.requires in
+    record { short = there.short; fits = omega arith }
+
+pub overflow_cast-result : goal.overflow_cast-result
+overflow_cast-result c = search value_fits
+
+pub overflow_cast-result-2 : goal.overflow_cast-result-2
+overflow_cast-result-2 c = search value_fits
 
 pub returns : goal.returns
 unfolding first_by
 returns c =
     let a = c.args in
-    orbital_there _ a.at (omega arith)
-    (λ i. Read (Orbital (c.value_at.ensures i) (eqb (c.value_at-2.ensures i) 1) (c.value_at-3.ensures i)) (a.at + 24))
+    orbital_there _ a.at (enough_room _ _ _ _ c.enough.ensures c.in_ok-enough.was c.requires).fits
+    (λ i. found_at (Orbital (c.value_at.ensures i) (eqb (c.value_at-2.ensures i) 1) (c.value_at-3.ensures i)) (a.at + 24))

@@ -3,8 +3,8 @@
 use Rattle.position.proofs.Systems.{is_orbital, is_elements}
 use Rattle.position.proofs.read_system.Goals as goal
 
-pub returns-then-kind-eq0 : goal.returns-then-kind-eq0
-returns-then-kind-eq0 c = search is_orbital
+pub returns-in-0 : goal.returns-in-0
+returns-in-0 c = search is_orbital
 
-pub returns : goal.returns
-returns c = search is_elements
+pub returns-in_default : goal.returns-in_default
+returns-in_default c = search is_elements

@@ -1,45 +1,52 @@
 -- `read_front` meets its contract: the id, the reserved bits, the metadata's flag, and the other flags by what
 -- `read_flags` answers.
 -- Assumes nothing.
-use native.Mathlib.Omega.{arith}
+use mathlib.Core.Path.{◌∙◌}
+use Rattle.std.proofs.Common.{rules}
 use Rattle.bits.proofs.Answers.{next_place, got_fits}
 use Rattle.bits.proofs.Reading.{reading}
+use Rattle.format.proofs.Passed.{carried}
 use Rattle.position_v3.specs.PositionV3.{front_at}
 use Rattle.position_v3.proofs.Fronts.{flags_got, flags_cut}
 use Rattle.position_v3.proofs.read_front.Goals as goal
 
-pub returns-in_default : goal.returns-in_default
+pub returns-in_err-id : goal.returns-in_err-id
 unfolding front_at
-returns-in_default c = search reading
+returns-in_err-id c = search (reading, carried, c.in_err-id.was, rules)
 
-pub read_u-r-requires-2 : goal.read_u-r-requires-2
-read_u-r-requires-2 c = record { place = search next_place; bits_bound = omega arith }
+pub read_u-requires-2-clause-place : goal.read_u-requires-2-clause-place
+read_u-requires-2-clause-place c = next_place _ 24 c.in_ok-id.was c.read_u.ensures c.requires.short
 
-pub returns-in_default-r : goal.returns-in_default-r
+pub returns-in_err-reserved : goal.returns-in_err-reserved
 unfolding front_at
-returns-in_default-r c = search reading
+returns-in_err-reserved c = search (reading, carried, c.in_ok-id.was, c.in_err-reserved.was, rules)
 
-pub read_u-r-requires-3 : goal.read_u-r-requires-3
-read_u-r-requires-3 c = record { place = search next_place; bits_bound = omega arith }
+pub read_u-requires-3-clause-place : goal.read_u-requires-3-clause-place
+read_u-requires-3-clause-place c = next_place _ 3 c.in_ok-reserved.was c.read_u-2.ensures c.requires.short
 
-pub returns-in_default-r-2 : goal.returns-in_default-r-2
+pub returns-in_err-metadata : goal.returns-in_err-metadata
 unfolding front_at
-returns-in_default-r-2 c = search reading
+returns-in_err-metadata c =
+    search (reading, carried, c.in_ok-id.was, c.in_ok-reserved.was, c.in_err-metadata.was, rules)
 
-pub read_flags-r-requires : goal.read_flags-r-requires
-read_flags-r-requires c = search next_place
+pub read_flags-requires : goal.read_flags-requires
+read_flags-requires c = next_place _ 1 c.in_ok-metadata.was c.read_u-3.ensures c.requires.short
 
-pub returns-in_default-r-3 : goal.returns-in_default-r-3
-returns-in_default-r-3 c = search flags_cut
+pub returns-in_err-flags : goal.returns-in_err-flags
+returns-in_err-flags c =
+    carried c.from_residual-in_err-flags.ensures
+    ∙ flags_cut _ _ c.read_u.ensures c.in_ok-id.was c.read_u-2.ensures c.in_ok-reserved.was
+    c.read_u-3.ensures c.in_ok-metadata.was
+    c.read_flags.ensures c.in_err-flags.was
 
-pub overflow_cast-front : goal.overflow_cast-front
-overflow_cast-front c = search (got_fits, tt)
+pub overflow_cast-result : goal.overflow_cast-result
+overflow_cast-result c = got_fits _ _ 24 c.in_ok-id.was c.read_u.ensures tt
 
-pub overflow_cast-front-2 : goal.overflow_cast-front-2
-overflow_cast-front-2 c = search (got_fits, tt)
-
-pub overflow_cast-front-3 : goal.overflow_cast-front-3
-overflow_cast-front-3 c = search (got_fits, tt)
+pub overflow_cast-result-2 : goal.overflow_cast-result-2
+overflow_cast-result-2 c = got_fits _ _ 3 c.in_ok-reserved.was c.read_u-2.ensures tt
 
 pub returns : goal.returns
-returns c = search flags_got
+returns c =
+    flags_got _ _ c.read_u.ensures c.in_ok-id.was c.read_u-2.ensures c.in_ok-reserved.was
+    c.read_u-3.ensures c.in_ok-metadata.was
+    c.read_flags.ensures c.in_ok-flags.was

@@ -11,7 +11,7 @@ pub returns-then-flag-eq1 : goal.returns-then-flag-eq1
 unfolding run sign_of width_of
 returns-then-flag-eq1 c =
     λ way. starts (when_yes _ _ _ _ _ end (eq-eqb _ _ c.if-flag-eq1.true))
-    (starts (need_any _ _ _ 20 728 _) (c.read_run.ensures.laid way names.covariance (λ _. end)))
+    (starts (need_any _ _ _ _ _ _) (c.read_run.ensures.laid way names.covariance (λ _. end)))
 
 pub returns : goal.returns
 returns c = λ way. starts (when_no _ _ _ _ _ _ (ne_eqb _ _ c.if-flag-eq1.false)) (record { to = stay c.requires.within })

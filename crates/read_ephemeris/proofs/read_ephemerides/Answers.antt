@@ -1,53 +1,47 @@
 -- `read_ephemerides`: the count, so many entries, and the covariance.
 -- Assumes nothing.
+use Prim.Native.Nat.{ℕ}
 use mathlib.Core.List.{[], ◌∷◌}
 use native.Mathlib.Omega.{arith}
+use borrow.Author.Rules.{rules}
+use Rattle.format.specs.Syntax.{Syntax, end}
 use Rattle.format.specs.Tables.{times, ephemeris, covariance}
-use Rattle.runs.specs.Lines.{run, sign_of, width_of, size_of}
+use Rattle.runs.specs.Lines.{run, sign_of, width_of}
 use Rattle.read_runs.specs.Came.{some_way}
 use Rattle.runs.proofs.Names as names
-use Rattle.read_runs.proofs.CameLaws.{done, stops, then, go_on}
+use Rattle.read_runs.proofs.CameLaws.{stops, then}
 use Rattle.read_runs.proofs.Runs.{placed_on}
 use Rattle.read_runs.proofs.Moved.{run_moved}
+use Rattle.runs.specs.declared.Flags.{Flags}
 use Rattle.read_ephemeris.proofs.read_ephemerides.Goals as goal
 
-pub returns-in_default : goal.returns-in_default
-unfolding run sign_of width_of
-returns-in_default c =
-    λ way. let a = c.args in
-    let read-run = c.read_run-head in
-    stops c.in_default.is (read-run.ensures.laid way names.count (λ n. times n (ephemeris a.accel) (covariance a.cov)))
+abbrev rest : Flags → ℕ → Syntax
+rest f n = times n (ephemeris f.acceleration) (covariance f.covariance)
 
-pub read_each-each-requires : goal.read_each-each-requires
-unfolding run sign_of width_of size_of
-read_each-each-requires c =
-    let a = c.args in
-    let pre = c.requires in
-    let read-run = c.read_run-head in
-    record { ledger_placed = placed_on pre.ledger_placed (done c.in-Done.is (read-run.ensures.laid some_way names.count (λ n. times n (ephemeris a.accel) (covariance a.cov)))); at_value = omega (arith, run_moved (16 ∷ []) c.in-Done.is pre.ledger_placed.within read-run.ensures.laid, pre.at_value) }
-
-pub returns-in_default-each : goal.returns-in_default-each
+pub returns-in_err-head : goal.returns-in_err-head
 unfolding run sign_of width_of
-returns-in_default-each c =
-    λ way. let a = c.args in
-    let read-run = c.read_run-head in
-    then (done c.in-Done.is (read-run.ensures.laid way names.count (λ n. times n (ephemeris a.accel) (covariance a.cov))))
-    (stops c.in_default-each.is (c.read_each-each.ensures way (covariance a.cov)))
+returns-in_err-head c = λ way. stops (search rules) (c.in_err-head.ensures.laid way names.count (rest c.args.flags))
+
+pub read_each-requires-clause-ledger_placed : goal.read_each-requires-clause-ledger_placed
+read_each-requires-clause-ledger_placed c = placed_on c.requires.ledger_placed (c.in_ok-head.ensures.laid some_way [] (λ _. end)).to
+
+pub read_each-requires-clause-at_value : goal.read_each-requires-clause-at_value
+unfolding width_of
+read_each-requires-clause-at_value c =
+    omega (arith, run_moved (16 ∷ []) c.requires.ledger_placed.within c.in_ok-head.ensures.laid, c.requires.at_value)
+
+pub returns-in_err-each : goal.returns-in_err-each
+unfolding run sign_of width_of
+returns-in_err-each c =
+    λ way. then (c.in_ok-head.ensures.laid way names.count (rest c.args.flags)).to
+    (stops (search rules) (c.in_err-each.ensures way (covariance c.args.flags.covariance)))
 
 pub read_covariance-requires : goal.read_covariance-requires
-unfolding run sign_of width_of
 read_covariance-requires c =
-    let a = c.args in
-    let pre = c.requires in
-    let read-run = c.read_run-head in
-    placed_on pre.ledger_placed
-    (go_on (done c.in-Done.is (read-run.ensures.laid some_way names.count (λ n. times n (ephemeris a.accel) (covariance a.cov)))) (done c.in-Done-each.is (c.read_each-each.ensures some_way (covariance a.cov))))
+    placed_on (placed_on c.requires.ledger_placed (c.in_ok-head.ensures.laid some_way [] (λ _. end)).to) (c.in_ok-each.ensures some_way end).to
 
 pub returns : goal.returns
 unfolding run sign_of width_of
 returns c =
-    λ way. let a = c.args in
-    let read-run = c.read_run-head in
-    then
-    (go_on (done c.in-Done.is (read-run.ensures.laid way names.count (λ n. times n (ephemeris a.accel) (covariance a.cov)))) (done c.in-Done-each.is (c.read_each-each.ensures way (covariance a.cov))))
-    (c.read_covariance.ensures way)
+    λ way. then (c.in_ok-head.ensures.laid way names.count (rest c.args.flags)).to
+    (then (c.in_ok-each.ensures way (covariance c.args.flags.covariance)).to (c.read_covariance.ensures way))

@@ -9,4 +9,4 @@ use Rattle.read_ephemeris.proofs.read_header.Goals as goal
 
 pub returns : goal.returns
 unfolding header run sign_of width_of
-returns c = λ way. starts (need_any _ _ _ 2 1 _) (starts (need_any _ _ _ 15 64 _) (c.read_run.ensures.laid way names.header (λ _. end)))
+returns c = λ way. starts (need_any _ _ _ _ _ _) (starts (need_any _ _ _ _ _ _) (c.read_run.ensures.laid way names.header (λ _. end)))

@@ -1,98 +1,108 @@
 -- `read_plan` goes through a plan: its length before its fields in the second edition, and behind them in the first.
 -- Assumes nothing.
-use mathlib.Core.List.{[], ◌∷◌}
+use Prim.Native.Nat.{ℕ, ◌+◌, ◌*◌, ◌≤◌}
+use mathlib.Core.Path.{◌≡◌}
+use mathlib.Core.List.{List, [], ◌∷◌}
 use native.Mathlib.Omega.{arith}
-use borrow.Author.Tests.{eq-eqb, ne_eqb}
-use Rattle.format.specs.Syntax.{plan, edition_1, edition_2}
+use borrow.Author.Rules.{rules}
+use Rattle.std.specs.Prelude.{Ok}
+use Rattle.format.specs.Syntax.{Name, Syntax, plan}
+use Rattle.format.specs.declared.Edition.TheVariants.{First, Second}
 use Rattle.format.specs.Tables.{hopping, beamhopping}
-use Rattle.format.specs.Whole.{edition_for}
 use Rattle.format.proofs.DigitLaws.{length_digits}
+use Rattle.runs.specs.declared.Step.{Step}
 use Rattle.runs.specs.Lines.{sign_of, width_of, size_of, run}
-use Rattle.read_runs.specs.Came.{way_of, some_way}
-use Rattle.read_runs.proofs.CameLaws.{done}
+use Rattle.read_runs.specs.Came.{Way, way_of, some_way, LedgerPlaced, Laid}
 use Rattle.read_runs.proofs.Moved.{run_moved}
+use Rattle.read_runs.proofs.Runs.{placed_on}
 use Rattle.read_runs.proofs.Stores.{fits}
 use Rattle.write_plans.proofs.Names.{plan_names}
-use Rattle.read_plans.proofs.TakenLaws.{taken_no, plan_took, spared_done}
-use Rattle.read_plans.proofs.OpenLaws.{as_first, as_second, length_no, inner_no, inner_placed, inner_first, inner_second, opened_first, ahead_done, laid_length}
-use borrow.Author.Rules.{rules}
+use Rattle.read_plans.proofs.TakenLaws.{taken_no, plan_took}
+use Rattle.read_plans.proofs.OpenLaws.{length_no, inner_no, inner_placed, inner_first, inner_second, opened_first, laid_length}
 use Rattle.read_plans.proofs.read_plan.Goals as goal
 
-pub returns-in_default : goal.returns-in_default
-unfolding beamhopping run sign_of width_of size_of
-returns-in_default c =
+-- what follows the first run
+abbrev rest : ℕ → Syntax
+rest _ = plan "plan_length" hopping
+
+-- where the first run came to
+record Headed (l : List ℕ) (place at : ℕ) (x : Step ℕ) : Type 0 where
+  moved : x.at ≡ at + 36
+  placed : LedgerPlaced l x.place x.at
+  behind : x.at + 12 ≤ 8 * x.place
+
+headed : {l out out' : List ℕ} {place at : ℕ} {x : Step ℕ} → LedgerPlaced l place (at + 8)
+    → ((way : Way) (nms : List Name) (k : ℕ → Syntax) → Laid way l (run nms 0 (32 ∷ 4 ∷ []) k) place at out k out' (Ok x)) → Headed l place at x
+unfolding sign_of width_of size_of
+headed p y =
+    let m = run_moved (32 ∷ 4 ∷ []) p.within y in
+    record {
+      moved = omega (arith, m);
+      placed = record { short = p.short; within = (y some_way [] rest).to.within; behind = omega (arith, m, p.behind) };
+      behind = omega (arith, m, p.behind);
+    }
+
+pub returns-in_err-head : goal.returns-in_err-head
+unfolding beamhopping run sign_of width_of
+returns-in_err-head c = taken_no (search rules) (c.in_err-head.ensures.laid (way_of c.args.edition c.args.last) plan_names rest)
+
+pub read_length-requires : goal.read_length-requires
+read_length-requires c = (headed c.requires c.in_ok-head.ensures.laid).placed
+
+pub returns-in_err-length : goal.returns-in_err-length
+unfolding beamhopping run sign_of width_of
+returns-in_err-length c =
     let a = c.args in
-    taken_no c.in_default.is (c.read_run-head.ensures.laid (way_of (edition_for a.version) a.last) plan_names (λ _. plan "plan_length" hopping))
+    length_no a.edition a.last (c.in_ok-head.ensures.laid (way_of a.edition a.last) plan_names rest).to (search rules) c.in_err-length.ensures
 
-pub read_length-length-requires : goal.read_length-length-requires
-unfolding beamhopping run sign_of width_of size_of
-read_length-length-requires c =
-    let pre = c.requires in
-    let m = run_moved (32 ∷ 4 ∷ []) c.in-Done.is pre.within c.read_run-head.ensures.laid in
-    record { short = pre.short; within = (done c.in-Done.is (c.read_run-head.ensures.laid some_way plan_names (λ _. plan "plan_length" hopping))).within; behind = omega (arith, m, pre.behind) }
+pub read_hopping-requires : goal.read_hopping-requires
+read_hopping-requires c =
+    let h = headed c.requires c.in_ok-head.ensures.laid in
+    inner_placed c.args.edition h.placed h.behind c.in_ok-length.ensures
 
-pub returns-in_default-length : goal.returns-in_default-length
-unfolding beamhopping run sign_of width_of size_of
-returns-in_default-length c =
+pub returns-in_err-hopping : goal.returns-in_err-hopping
+unfolding beamhopping run sign_of width_of
+returns-in_err-hopping c =
     let a = c.args in
-    let ed = edition_for a.version in
-    length_no ed a.last (done c.in-Done.is (c.read_run-head.ensures.laid (way_of ed a.last) plan_names (λ _. plan "plan_length" hopping))) c.in_default-length.is c.read_length-length.ensures
+    inner_no a.edition a.last (c.in_ok-head.ensures.laid (way_of a.edition a.last) plan_names rest).to c.in_ok-length.ensures (search rules)
+    c.in_err-hopping.ensures.laid
 
-pub read_hopping-hopping-requires : goal.read_hopping-hopping-requires
-unfolding beamhopping run sign_of width_of size_of
-read_hopping-hopping-requires c =
-    let a = c.args in
-    let pre = c.requires in
-    let m = run_moved (32 ∷ 4 ∷ []) c.in-Done.is pre.within c.read_run-head.ensures.laid in
-    let w = done c.in-Done.is (c.read_run-head.ensures.laid some_way plan_names (λ _. plan "plan_length" hopping)) in
-    inner_placed c.in-Done-length.is (edition_for a.version) (record { short = pre.short; within = w.within; behind = omega (arith, m, pre.behind) }) (omega (arith, m, pre.behind)) c.read_length-length.ensures
-
-pub returns-in_default-hopping : goal.returns-in_default-hopping
-unfolding beamhopping run sign_of width_of size_of
-returns-in_default-hopping c =
-    let a = c.args in
-    let ed = edition_for a.version in
-    inner_no c.in-Done-length.is c.read_hopping-hopping.ensures.laid ed a.last (done c.in-Done.is (c.read_run-head.ensures.laid (way_of ed a.last) plan_names (λ _. plan "plan_length" hopping))) c.read_length-length.ensures c.in_default-hopping.is
-
-pub read_filler-requires : goal.read_filler-requires
-unfolding beamhopping run sign_of width_of size_of
-read_filler-requires c =
-    let a = c.args in
-    let pre = c.requires in
-    let m = run_moved (32 ∷ 4 ∷ []) c.in-Done.is pre.within c.read_run-head.ensures.laid in
-    let o = as_second a.version c.if-version-eq2.true c.read_length-length.ensures in
-    let d = ahead_done _ _ c.in-Done-length.is o.to.1 in
-    let w = done c.in-Done-hopping.is (c.read_hopping-hopping.ensures.laid some_way) in
-    let n = spared_done c.in-Done-hopping.is c.read_hopping-hopping.ensures.spared in
-    record { ledger_placed = record { short = pre.short; within = w.within; behind = omega (arith, m, d, w.slack, pre.behind) }; length_at_bound = (omega (arith, d, w.size), omega (arith, d, w.size, n)) }
-
-pub returns-then-version-eq2 : goal.returns-then-version-eq2
-unfolding beamhopping run sign_of width_of size_of
-returns-then-version-eq2 c =
-    let a = c.args in
-    let o = as_second a.version c.if-version-eq2.true c.read_length-length.ensures in
-    let x = done c.in-Done.is (c.read_run-head.ensures.laid (way_of edition_2 a.last) plan_names (λ _. plan "plan_length" hopping)) in
-    rw (eq-eqb a.version 2 c.if-version-eq2.true) (c.read_filler.ensures.to beamhopping a.place a.at a.out.now _ x (inner_second c.in-Done-length.is c.read_hopping-hopping.ensures.laid c.in-Done-hopping.is a.last o))
-
-pub overflow_sub-at : goal.overflow_sub-at
-overflow_sub-at c =
-    omega (arith, (done c.in-Done-hopping.is (c.read_hopping-hopping.ensures.laid some_way)).size)
+pub overflow_sub-hopping : goal.overflow_sub-hopping
+overflow_sub-hopping c = omega (arith, (c.in_ok-hopping.ensures.laid some_way).to.size)
 
 pub lay-requires : goal.lay-requires
-unfolding beamhopping run sign_of width_of size_of
 lay-requires c =
-    let pre = c.requires in
-    omega (arith, run_moved (32 ∷ 4 ∷ []) c.in-Done.is pre.within c.read_run-head.ensures.laid, pre.behind, pre.short, pre.within)
+    let h = (headed c.requires c.in_ok-head.ensures.laid).placed in
+    omega (arith, h.behind, h.within, h.short)
 
-pub returns : goal.returns
-unfolding beamhopping run sign_of width_of size_of
-returns c =
+pub read_filler-requires-clause-ledger_placed : goal.read_filler-requires-clause-ledger_placed
+read_filler-requires-clause-ledger_placed c =
+    let h = headed c.requires c.in_ok-head.ensures.laid in
+    placed_on (inner_placed c.args.edition h.placed h.behind c.in_ok-length.ensures) (c.in_ok-hopping.ensures.laid some_way).to
+
+pub read_filler-requires-clause-start_bound : goal.read_filler-requires-clause-start_bound
+read_filler-requires-clause-start_bound c =
+    let d = (rw c.in-Second.is at c.in_ok-length.ensures).to.1 in
+    let w = (c.in_ok-hopping.ensures.laid some_way).to in
+    (omega (arith, d, w.size), omega (arith, d, w.size, c.in_ok-hopping.ensures.spared.to))
+
+pub returns-in-First : goal.returns-in-First
+unfolding beamhopping run sign_of width_of
+returns-in-First c =
     let a = c.args in
-    let pre = c.requires in
-    let m = run_moved (32 ∷ 4 ∷ []) c.in-Done.is pre.within c.read_run-head.ensures.laid in
-    let o = as_first a.version c.if-version-eq2.false c.read_length-length.ensures in
-    let e = opened_first c.in-Done-length.is o in
-    let n = spared_done c.in-Done-hopping.is c.read_hopping-hopping.ensures.spared in
-    let x = done c.in-Done.is (c.read_run-head.ensures.laid (way_of edition_1 a.last) plan_names (λ _. plan "plan_length" hopping)) in
-    let w = inner_first c.in-Done-length.is c.read_hopping-hopping.ensures.laid c.in-Done-hopping.is a.last o in
-    rw (ne_eqb a.version 2 c.if-version-eq2.false) (record { to = plan_took x w (laid_length _ _ _ _ _ e.0 (fits _ _ _ _ 12 c.lay.ensures (length_digits 2 12 _))) (search rules) (omega (arith, m, n, e)) })
+    let h = headed c.requires c.in_ok-head.ensures.laid in
+    let o = rw c.in-First.is at c.in_ok-length.ensures in
+    let e = opened_first o in
+    let x = (c.in_ok-head.ensures.laid (way_of First a.last) plan_names rest).to in
+    let w = inner_first c.in_ok-hopping.ensures.laid a.last o in
+    let b = laid_length _ _ _ _ _ e.0 (fits _ _ _ _ 12 c.lay.ensures (length_digits 2 12 _)) in
+    rw c.in-First.is
+    (record { to = plan_took x w b (search rules) (omega (arith, h.moved, e, x.slack, c.in_ok-hopping.ensures.spared.to)) })
+
+pub returns-in-Second : goal.returns-in-Second
+unfolding beamhopping run sign_of width_of
+returns-in-Second c =
+    let a = c.args in
+    let o = rw c.in-Second.is at c.in_ok-length.ensures in
+    let x = (c.in_ok-head.ensures.laid (way_of Second a.last) plan_names rest).to in
+    rw c.in-Second.is (c.read_filler.ensures.to beamhopping a.place a.at a.out.now _ x (inner_second c.in_ok-hopping.ensures.laid a.last o))

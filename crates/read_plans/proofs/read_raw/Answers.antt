@@ -8,12 +8,12 @@ use Rattle.read_runs.proofs.Stores.{fits}
 use Rattle.read_plans.proofs.read_raw.Goals as goal
 
 pub returns-then-ledger-place-lt2 : goal.returns-then-ledger-place-lt2
-returns-then-ledger-place-lt2 c = λ way nm. record { to = raw_short _ _ _ nm c.requires.within c.if-ledger-place-lt2.true }
+returns-then-ledger-place-lt2 c = λ way nm. record { to = rw c.refused_at.ensures (raw_short _ _ _ nm c.requires.within c.if-ledger-place-lt2.true) }
 
 pub returns-then-ledger-start : goal.returns-then-ledger-start
 returns-then-ledger-start c =
     λ way nm. record
-    { to = raw_missing _ _ _ nm c.requires.within _ c.if-ledger-place-lt2.false c.get_be-count.ensures c.if-ledger-start.true }
+    { to = rw c.refused_at-then-ledger-start.ensures (raw_missing _ _ _ nm c.requires.within _ c.if-ledger-place-lt2.false c.get_be-count.ensures c.if-ledger-start.true) }
 
 pub returns : goal.returns
 returns c =

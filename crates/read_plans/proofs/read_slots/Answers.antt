@@ -9,14 +9,14 @@ use Rattle.read_runs.proofs.Stores.{fits}
 use Rattle.read_plans.proofs.read_slots.Goals as goal
 
 pub returns-then-ledger-place : goal.returns-then-ledger-place
-returns-then-ledger-place c = λ way nm s. record { to = slots_missing _ _ _ _ nm s c.requires.ledger_placed.within c.if-ledger-place.true }
+returns-then-ledger-place c = λ way nm s. record { to = rw c.refused_at.ensures (slots_missing _ _ _ _ nm s c.requires.ledger_placed.within c.if-ledger-place.true) }
 
 pub returns-then-value_at-ne0 : goal.returns-then-value_at-ne0
 returns-then-value_at-ne0 c =
     let a = c.args in
     let pre = c.requires in
     λ way nm s. record
-    { to = slots_wrong _ _ _ _ _ pre.ledger_placed.within c.if-ledger-place.false (part_of a.ledger.now a.place (wholes a.m)) nm s (λ z. c.if-value_at-ne0.true (c.value_at.ensures ∙ z)) }
+    { to = rw c.refused_at-then-value_at-ne0.ensures (slots_wrong _ _ _ _ _ pre.ledger_placed.within c.if-ledger-place.false (part_of a.ledger.now a.place (wholes a.m)) nm s (λ z. c.if-value_at-ne0.true (c.value_at.ensures ∙ z))) }
 
 pub returns : goal.returns
 returns c =

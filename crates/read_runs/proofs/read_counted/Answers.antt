@@ -2,40 +2,33 @@
 -- Assumes nothing.
 use mathlib.Core.List.{[]}
 use native.Mathlib.Omega.{arith}
+use borrow.Author.Rules.{rules}
 use Rattle.runs.specs.Lines.{run}
 use Rattle.write_runs.proofs.Runs.{rounds_next, rounds_end, rounds_all}
 use Rattle.read_runs.proofs.Runs.{as_zero, begin, turn, stop, ended}
 use Rattle.read_runs.proofs.read_counted.Goals as goal
 
-pub loop-i-init : goal.loop-i-init
-loop-i-init c =
-    let a = c.args in
-    (λ nms. begin c.requires.ledger_placed (rounds_all nms a.marks.now a.count), omega arith)
+pub loop-init : goal.loop-init
+loop-init c = λ nms. begin c.requires.ledger_placed (rounds_all nms c.args.marks.now c.args.count)
 
-pub read_run-step-requires : goal.read_run-step-requires
-read_run-step-requires c = record { ledger_placed = (c.loop-i.invariant.0 []).placed; t = c.requires.t }
+pub read_run-requires-clause-ledger_placed : goal.read_run-requires-clause-ledger_placed
+read_run-requires-clause-ledger_placed c = (c.loop.invariant []).placed
 
-pub returns-in_default : goal.returns-in_default
-returns-in_default c =
+pub returns-in_err-step : goal.returns-in_err-step
+returns-in_err-step c =
     let a = c.args in
-    let l = c.loop-i in
-    let test' = c.loop-i-test in
-    λ way nms s. stop (run nms 0 a.marks.now) (l.invariant.0 nms) (λ x. c.read_run-step.ensures.laid x nms)
-    ((λ k. rounds_next nms a.marks.now a.count 0 l.i k test'.true)) c.in_default.is way (λ _. s) (λ _. s)
+    λ way nms s. stop (run nms 0 a.marks.now) (c.loop.invariant nms) (λ k. rounds_next nms a.marks.now a.count 0 c.loop.counter k c.loop-test.true)
+    (search rules) (λ way. c.in_err-step.ensures.laid way nms) way (λ _. s) (λ _. s)
 
-pub loop-i-preserved : goal.loop-i-preserved
-loop-i-preserved c =
+pub loop-preserved : goal.loop-preserved
+loop-preserved c =
     let a = c.args in
-    let l = c.loop-i in
-    let test' = c.loop-i-test in (
-      λ nms. as_zero nms a.marks.now a.count
-          (turn (run nms 0 a.marks.now) (l.invariant.0 nms) (λ x. c.read_run-step.ensures.laid x nms)
-          ((λ k. rounds_next nms a.marks.now a.count 0 l.i k test'.true)) c.in-Done.is),
-      omega arith,
-    )
+    λ nms. as_zero nms a.marks.now a.count
+    (turn (run nms 0 a.marks.now) (c.loop.invariant nms) (λ k. rounds_next nms a.marks.now a.count 0 c.loop.counter k c.loop-test.true)
+    (λ way. c.in_ok-step.ensures.laid way nms))
 
 pub returns : goal.returns
 returns c =
     let a = c.args in
     λ way nms s. record
-    { to = ended (c.loop-i.invariant.0 nms) way (λ _. s) _ (rounds_end nms a.marks.now a.count 0 c.loop-i.i (λ _. s) (omega arith)) }
+    { to = ended (c.loop.invariant nms) way (λ _. s) _ (rounds_end nms a.marks.now a.count 0 c.loop.counter (λ _. s) (omega arith)) }

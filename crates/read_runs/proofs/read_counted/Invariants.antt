@@ -1,6 +1,5 @@
 -- `read_counted`: the loop came along so many rounds of the run.
 -- Assumes nothing.
-use Prim.Native.Nat.{◌-◌, ◌≤◌}
 use mathlib.Core.List.{List}
 use Rattle.format.specs.Syntax.{Name}
 use Rattle.format.specs.Tables.{times}
@@ -9,8 +8,6 @@ use Rattle.write_runs.proofs.Runs.{rounds}
 use Rattle.read_runs.proofs.Runs.{Along}
 use Rattle.read_runs.proofs.read_counted.Given as goal
 
-abbrev pub invariant-loop-i : goal.invariant-loop-i
-invariant-loop-i l = ((nms : List Name) → Along (λ k. times l.count (run_of nms l.marks) (k 0)) (rounds nms l.marks l.count) l.ledger l.at l.place l.initial.out l.here l.there 0 l.i l.out) × (l.i ≤ l.count)
-
-abbrev pub decreases-loop-i : goal.decreases-loop-i
-decreases-loop-i l = l.count - l.i
+abbrev pub invariant-loop : goal.invariant-loop
+invariant-loop l =
+    (nms : List Name) → Along (λ k. times l.count (run_of nms l.marks) (k 0)) (rounds nms l.marks l.count) l.ledger l.at l.place l.initial.out l.step.at l.step.place 0 l.counter l.out

@@ -15,7 +15,7 @@ use Rattle.read_runs.proofs.read_line.Goals as goal
 pub returns-then-ledger-place : goal.returns-then-ledger-place
 returns-then-ledger-place c = record {
   laid = λ way nm k. record
-      { to = missing _ _ _ nm _ k c.size_of-size.ensures c.requires.ledger_placed.within c.if-ledger-place.true };
+      { to = rw c.refused_at.ensures (missing _ _ _ nm _ k c.size_of-size.ensures c.requires.ledger_placed.within c.if-ledger-place.true) };
   result_bound = pow_pos _;
 }
 
@@ -25,7 +25,7 @@ get_be-x-requires c =
     omega (
       arith,
       pre.ledger_placed.within,
-      (mark_facts c.args.mark pre.t).eight,
+      (mark_facts c.args.mark pre.valid).eight,
       c.size_of-size.ensures,
       c.if-ledger-place.false,
     )
@@ -38,8 +38,13 @@ returns-then-shown_of-x c =
     let there = c.if-ledger-place.false in
     let number = c.get_be-x.ensures in
     let low = c.low_of-v.ensures in
-    let shown = c.shown_of.ensures in
-    record { laid = λ way nm k. record { to = wrong _ _ _ nm a.mark k size pre.ledger_placed.within there number low (λ z. c.if-shown_of-x.true (shown ∙ z)) }; result_bound = pow_pos _ }
+    let shown = c.shown_of.ensures in record {
+      laid = λ way nm k. record {
+        to = rw c.refused_at-then-shown_of-x.ensures
+            (wrong _ _ _ nm a.mark k size pre.ledger_placed.within there number low (λ z. c.if-shown_of-x.true (shown ∙ z)));
+      };
+      result_bound = pow_pos _;
+    }
 
 pub overflow_add-step : goal.overflow_add-step
 overflow_add-step c =
@@ -50,8 +55,8 @@ overflow_add-step c =
       pre.ledger_placed.within,
       pre.ledger_placed.short,
       pre.ledger_placed.behind,
-      (mark_facts a.mark pre.t).some,
-      (mark_facts a.mark pre.t).most,
+      (mark_facts a.mark pre.valid).some,
+      (mark_facts a.mark pre.valid).most,
       c.width_of-width.ensures,
     )
 
@@ -66,9 +71,9 @@ returns-then-out-eq0 c =
     let shown = c.shown_of.ensures in
     let right = c.if-shown_of-x.false in
     let width = c.width_of-width.ensures in
-    let some = (mark_facts a.mark pre.t).some in record {
+    let some = (mark_facts a.mark pre.valid).some in record {
       laid = λ way nm k. record {
-        to = line_done nm a.mark k pre.t width size pre.ledger_placed.within there number.ensures low (sym shown ∙ right) (λ h. absurd (omega (arith, c.if-out-eq0.true, some, width))) (refl);
+        to = line_done nm a.mark k pre.valid width size pre.ledger_placed.within there number.ensures low (sym shown ∙ right) (λ h. absurd (omega (arith, c.if-out-eq0.true, some, width))) (refl);
       };
       result_bound = rw low (mod-lt number.result (pow_pos (width_of a.mark)));
     }
@@ -82,8 +87,8 @@ lay-requires c =
       pre.ledger_placed.within,
       pre.ledger_placed.short,
       pre.ledger_placed.behind,
-      (mark_facts a.mark pre.t).some,
-      (mark_facts a.mark pre.t).most,
+      (mark_facts a.mark pre.valid).some,
+      (mark_facts a.mark pre.valid).most,
       c.width_of-width.ensures,
     )
 
@@ -99,7 +104,7 @@ returns c =
     let right = c.if-shown_of-x.false in
     let width = c.width_of-width.ensures in record {
       laid = λ way nm k. record {
-        to = line_done nm a.mark k pre.t width size pre.ledger_placed.within there number.ensures low (sym shown ∙ right) (fits a.out.now _ _ _ _ c.lay.ensures (length_digits 2 _ _)) (search rules);
+        to = line_done nm a.mark k pre.valid width size pre.ledger_placed.within there number.ensures low (sym shown ∙ right) (fits a.out.now _ _ _ _ c.lay.ensures (length_digits 2 _ _)) (search rules);
       };
       result_bound = rw low (mod-lt number.result (pow_pos (width_of a.mark)));
     }

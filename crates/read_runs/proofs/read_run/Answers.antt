@@ -5,50 +5,39 @@ use mathlib.Core.List.{[]}
 use native.Mathlib.Omega.{arith}
 use lib.ListN.{length, drop, get_or}
 use lib.Pow.{pow_pos}
+use borrow.Author.Rules.{rules}
 use Rattle.runs.specs.Lines.{line, head_name}
 use Rattle.runs.proofs.MarkLaws.{marks_at}
-use Rattle.write_runs.proofs.Runs.{lines_next, lines_end, last_in, no_last}
-use Rattle.read_runs.specs.Steps.{last_of}
+use Rattle.write_runs.proofs.Runs.{lines_next, lines_end, last_in}
 use Rattle.read_runs.proofs.Runs.{begin, turn, stop, ended}
 use Rattle.read_runs.proofs.read_run.Goals as goal
 
-pub loop-i-init : goal.loop-i-init
-loop-i-init c = (λ nms. begin c.requires.ledger_placed (λ k. refl), omega arith, pow_pos _)
+pub loop-mark-init : goal.loop-mark-init
+loop-mark-init c = (λ nms. begin c.requires.ledger_placed (λ k. refl), pow_pos _)
 
-pub read_line-step-requires : goal.read_line-step-requires
-read_line-step-requires c =
-    let a = c.args in
-    let l = c.loop-i in
-    let pre = c.requires in
-    record { ledger_placed = (l.invariant.0 []).placed; t = marks_at a.marks.now l.i pre.t (omega arith) }
+pub read_line-requires-clause-ledger_placed : goal.read_line-requires-clause-ledger_placed
+read_line-requires-clause-ledger_placed c = (c.loop-mark.invariant.0 []).placed
 
-pub returns-in_default : goal.returns-in_default
-returns-in_default c =
-    let a = c.args in
-    let l = c.loop-i in
-    let test' = c.loop-i-test in record {
-      laid = λ way nms k. stop (line (head_name (drop l.i nms)) (get_or a.marks.now l.i 0)) (l.invariant.0 nms)
-          (λ x. c.read_line-step.ensures.laid x (head_name (drop l.i nms))) ((λ k. lines_next nms _ _ _ k test'.true))
-          c.in_default.is way k k;
-      result_bound = no_last last_of c.in_default.is _ refl;
-    }
+pub read_line-requires-clause-valid : goal.read_line-requires-clause-valid
+read_line-requires-clause-valid c = marks_at c.args.marks.now c.loop-mark.mark-index c.requires.valid (omega arith)
 
-pub loop-i-preserved : goal.loop-i-preserved
-loop-i-preserved c =
-    let a = c.args in
-    let l = c.loop-i in
-    let test' = c.loop-i-test in
-    let read-line = c.read_line-step in (
-      λ nms. turn (line (head_name (drop l.i nms)) (get_or a.marks.now l.i 0)) (l.invariant.0 nms)
-          (λ x. read-line.ensures.laid x (head_name (drop l.i nms))) ((λ k. lines_next nms _ _ _ k test'.true)) c.in-Done.is,
-      omega arith,
-      last_in last_of c.in-Done.is a.marks.now l.i read-line.ensures.result_bound,
+pub returns-in_err-step-clause-laid : goal.returns-in_err-step-clause-laid
+returns-in_err-step-clause-laid c =
+    let l = c.loop-mark in
+    λ way nms k. stop (line (head_name (drop l.mark-index nms)) (get_or c.args.marks.now l.mark-index 0)) (l.invariant.0 nms)
+    (λ k. lines_next nms _ _ _ k c.loop-mark-test.true) (search rules)
+    (λ way. c.in_err-step.ensures.laid way (head_name (drop l.mark-index nms))) way k k
+
+pub loop-mark-preserved : goal.loop-mark-preserved
+loop-mark-preserved c =
+    let l = c.loop-mark in (
+      λ nms. turn (line (head_name (drop l.mark-index nms)) (get_or c.args.marks.now l.mark-index 0)) (l.invariant.0 nms)
+          (λ k. lines_next nms _ _ _ k c.loop-mark-test.true)
+          (λ way. c.in_ok-step.ensures.laid way (head_name (drop l.mark-index nms))),
+      last_in c.args.marks.now l.mark-index c.in_ok-step.ensures.result_bound,
     )
 
-pub returns : goal.returns
-returns c =
-    let z : c.loop-i.i ≡ length c.args.marks.now = omega arith in record {
-      laid = λ way nms k. record
-          { to = ended (c.loop-i.invariant.0 nms) way k _ (lines_end nms c.args.marks.now _ c.loop-i.i k z) };
-      result_bound = rw (← z) c.loop-i.invariant.2;
-    }
+pub returns-clause-laid : goal.returns-clause-laid
+returns-clause-laid c =
+    let z : c.loop-mark.mark-index ≡ length c.args.marks.now = omega arith in
+    λ way nms k. record { to = ended (c.loop-mark.invariant.0 nms) way k _ (lines_end nms c.args.marks.now _ c.loop-mark.mark-index k z) }

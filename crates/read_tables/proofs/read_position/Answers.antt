@@ -2,12 +2,14 @@
 -- Assumes nothing.
 use Prim.Native.Nat.{ℕ}
 use lib.Dec.{eqb}
+use borrow.Author.Rules.{rules}
 use borrow.Author.Tests.{eq-eqb, ne_eqb}
+use mathlib.Core.List.{[]}
 use Rattle.format.specs.Syntax.{Syntax, when, end}
 use Rattle.format.specs.Tables.{position, orbital, elements}
 use Rattle.runs.specs.Lines.{run, sign_of, width_of}
 use Rattle.read_runs.specs.Came.{some_way}
-use Rattle.read_runs.proofs.CameLaws.{done, stops, starts, then, when_yes, when_no, need_any}
+use Rattle.read_runs.proofs.CameLaws.{stops, starts, then, when_yes, when_no, need_any}
 use Rattle.read_runs.proofs.Runs.{placed_on}
 use Rattle.runs.proofs.Names as names
 use Rattle.read_tables.proofs.read_position.Goals as goal
@@ -15,34 +17,26 @@ use Rattle.read_tables.proofs.read_position.Goals as goal
 abbrev rest : ℕ → Syntax
 rest v = when (eqb v 0) orbital elements
 
-pub returns-in_default : goal.returns-in_default
+pub returns-in_err-head : goal.returns-in_err-head
 unfolding position run sign_of width_of
-returns-in_default c = λ way. stops c.in_default.is (c.read_run-head.ensures.laid way names.satellite rest)
+returns-in_err-head c = λ way. stops (search rules) (c.in_err-head.ensures.laid way names.satellite rest)
 
-pub read_run-requires : goal.read_run-requires
-read_run-requires c =
-    let pre = c.requires in
-    let read-run = c.read_run-head in
-    record { ledger_placed = placed_on pre (done c.in-Done.is (read-run.ensures.laid some_way names.satellite rest)); t = tt }
+pub read_run-requires-then-head-eq0-clause-ledger_placed : goal.read_run-requires-then-head-eq0-clause-ledger_placed
+read_run-requires-then-head-eq0-clause-ledger_placed c = placed_on c.requires (c.in_ok-head.ensures.laid some_way [] (λ _. end)).to
 
-pub returns-then-system-eq0 : goal.returns-then-system-eq0
+pub returns-then-head-eq0 : goal.returns-then-head-eq0
 unfolding position run sign_of width_of
-returns-then-system-eq0 c =
-    λ way. let read-run = c.read_run-head in
-    then (done c.in-Done.is (read-run.ensures.laid way names.satellite rest))
-    (starts (when_yes _ _ _ _ _ _ (eq-eqb _ _ c.if-system-eq0.true))
-    (starts (need_any _ _ _ _ _ _) (c.read_run.ensures.laid way names.orbital (λ _. end))))
+returns-then-head-eq0 c =
+    λ way. then (c.in_ok-head.ensures.laid way names.satellite rest).to
+    (starts (when_yes _ _ _ _ _ _ (eq-eqb _ _ c.if-head-eq0.true))
+    (starts (need_any _ _ _ _ _ _) (c.read_run-then-head-eq0.ensures.laid way names.orbital (λ _. end))))
 
-pub read_run-requires-2 : goal.read_run-requires-2
-read_run-requires-2 c =
-    let pre = c.requires in
-    let read-run = c.read_run-head in
-    record { ledger_placed = placed_on pre (done c.in-Done.is (read-run.ensures.laid some_way names.satellite rest)); t = tt }
+pub read_run-requires-2-clause-ledger_placed : goal.read_run-requires-2-clause-ledger_placed
+read_run-requires-2-clause-ledger_placed c = placed_on c.requires (c.in_ok-head.ensures.laid some_way [] (λ _. end)).to
 
 pub returns : goal.returns
 unfolding position run sign_of width_of
 returns c =
-    λ way. let read-run = c.read_run-head in
-    then (done c.in-Done.is (read-run.ensures.laid way names.satellite rest))
-    (starts (when_no _ _ _ _ _ _ (ne_eqb _ _ c.if-system-eq0.false))
+    λ way. then (c.in_ok-head.ensures.laid way names.satellite rest).to
+    (starts (when_no _ _ _ _ _ _ (ne_eqb _ _ c.if-head-eq0.false))
     (starts (need_any _ _ _ _ _ _) (c.read_run-2.ensures.laid way names.elements (λ _. end))))

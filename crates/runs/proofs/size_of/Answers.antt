@@ -1,24 +1,24 @@
 -- `size_of` meets its contract: by the kind of the mark, and a field's bits.
 -- Assumes nothing.
 use native.Mathlib.Omega.{arith}
-use Rattle.bits.proofs.Tests.{tests}
+use Rattle.std.proofs.lemmas.Bool.Decides.{nat_tests}
 use Rattle.runs.proofs.MarkLaws.{size_signed, size_ext, size_unsigned}
 use Rattle.runs.proofs.size_of.Goals as goal
 
-pub returns-then-mark-eq-EXT : goal.returns-then-mark-eq-EXT
-returns-then-mark-eq-EXT c = rw (size_ext _ c.if-mark-eq-EXT.true)
+pub returns-in-0-to-8 : goal.returns-in-0-to-8
+returns-in-0-to-8 c = rw (size_unsigned c.args.mark (omega arith)) (grind (arith, nat_tests))
 
-pub returns-then-mark-ge128 : goal.returns-then-mark-ge128
-returns-then-mark-ge128 c = rw (size_signed _ c.if-mark-ge128.true c.if-mark-eq-EXT.false)
+pub returns-in-9-to-16 : goal.returns-in-9-to-16
+returns-in-9-to-16 c = rw (size_unsigned c.args.mark (omega arith)) (grind (arith, nat_tests))
 
-pub returns-then-mark-le8 : goal.returns-then-mark-le8
-returns-then-mark-le8 c = rw (size_unsigned c.args.mark (omega arith)) (search tests)
+pub returns-in-17-to-32 : goal.returns-in-17-to-32
+returns-in-17-to-32 c = rw (size_unsigned c.args.mark (omega arith)) (grind (arith, nat_tests))
 
-pub returns-then-mark-le16 : goal.returns-then-mark-le16
-returns-then-mark-le16 c = rw (size_unsigned c.args.mark (omega arith)) (search tests)
+pub returns-in-33-to-127 : goal.returns-in-33-to-127
+returns-in-33-to-127 c = rw (size_unsigned c.args.mark (omega arith)) (grind (arith, nat_tests))
 
-pub returns-then-mark-le32 : goal.returns-then-mark-le32
-returns-then-mark-le32 c = rw (size_unsigned c.args.mark (omega arith)) (search tests)
+pub returns-in-137 : goal.returns-in-137
+returns-in-137 c = rw (size_ext c.args.mark (omega arith))
 
-pub returns : goal.returns
-returns c = rw (size_unsigned c.args.mark (omega arith)) (search tests)
+pub returns-in_default : goal.returns-in_default
+returns-in_default c = rw (size_signed c.args.mark (omega arith) (λ e. omega arith))

@@ -1,23 +1,25 @@
--- `position_v3_body` meets its contract: the header's fields, and the part behind them.
+-- The header's fields, and the part behind them.
 -- Assumes nothing.
-use mathlib.Core.Path.{◌≡◌, refl}
+use mathlib.Core.Path.{sym, ap, ◌∙◌}
 use Prim.Native.Nat.{ℕ}
+use Rattle.std.specs.Prelude.{Result, Ok}
 use Rattle.format.specs.Tables as tables
-use Rattle.position_v3.specs.PositionV3.{header_of, header_at, header_refusal}
-use Rattle.position_v3.specs.declared.HeaderAnswer.{HeaderAnswer}
-use Rattle.position_v3.specs.declared.HeaderAnswer.TheVariants as r
-use Rattle.entries.specs.Entries.{head_end}
-use Rattle.entries.proofs.Ends.{given, given_no}
+use Rattle.format.specs.declared.Refusal.{Refusal}
+use Rattle.position_v3.specs.PositionV3.{header_of, header_at}
+use Rattle.position_v3.specs.declared.PositionV3Header.{PositionV3Header}
+use Rattle.format.proofs.Passed.{carried}
+use Rattle.entries.specs.Entries.{next_of}
+use Rattle.entries.proofs.Ends.{ends, made_found, made_refused}
+use Rattle.entries.proofs.Bodies.{head_ends}
 use Rattle.sat.specs.SatBody.{list_part, position3_body}
+use Rattle.sat.specs.declared.SatBody.{SatBody}
 use Rattle.sat.specs.declared.SatBody.TheVariants.{PositionV3}
-use Rattle.sat.specs.declared.SatBodyAnswer.{SatBodyAnswer}
-use Rattle.sat.specs.declared.SatBodyAnswer.TheVariants.{Body, Refused}
 use Rattle.sat.proofs.position_v3_body.Goals as goal
 
--- the body of a header with so many satellites behind it, and where the header ends
-after : ℕ → ℕ → HeaderAnswer → SatBodyAnswer
-after n e (r.Header h q) =
-    Body (PositionV3 (record {
+-- the body of a header that ends at q, with n satellites behind it up to e
+body_of : ℕ → ℕ → PositionV3Header → ℕ → Result SatBody Refusal
+body_of n e h q =
+    Ok (PositionV3 (record {
       oem_version_major = h.oem_version_major;
       oem_version_minor = h.oem_version_minor;
       creation_date_year = h.creation_date_year;
@@ -26,32 +28,24 @@ after n e (r.Header h q) =
       satellites = list_part q e n;
       creation_date_reserved_zero_future_use = h.creation_date_reserved_zero_future_use;
     }))
-after n e (r.Refused f) = Refused f
 
-behind : HeaderAnswer → ℕ
-behind (r.Header h q) = q
-behind (r.Refused f) = 0
-
-pub returns-in_default : goal.returns-in_default
-unfolding after header_refusal position3_body header_at
-returns-in_default c =
+pub returns-in_err-found : goal.returns-in_err-found
+unfolding body_of position3_body header_at
+returns-in_err-found c =
     let a = c.args in
-    given_no _ tables.header _ _ Refused (λ ts q. r.Header (header_of ts) q) r.Refused (after a.count a.end) (λ ts q. refl) (λ f. refl)
-    header_refusal (λ x. refl) c.read_header-r.ensures c.in_default.is c.header_refusal.ensures
+    rw (carried c.from_residual.ensures)
+    (made_refused a.s.now tables.header 0 header_of (body_of a.count a.end) c.read_header.ensures c.in_err-found.was)
 
-pub list_part-satellites-requires : goal.list_part-satellites-requires
-unfolding behind head_end header_at
-list_part-satellites-requires c =
+pub list_part-requires : goal.list_part-requires
+unfolding header_at
+list_part-requires c =
     let a = c.args in
-    let z : c.in-Header.next ≡ head_end 4 a.s.now =
-    given _ tables.header _ _ (λ f. 0) (λ ts q. r.Header (header_of ts) q) r.Refused behind (λ ts q. refl) (λ f. refl)
-    c.read_header-r.ensures c.in-Header.is refl in
-    rw z c.requires.1
+    let e = sym (ends a.s.now tables.header 0 header_of c.read_header.ensures) ∙ ap next_of c.in_ok-found.was in
+    rw (head_ends 4 a.s.now _ e) at c.requires.1
 
 pub returns : goal.returns
-unfolding after position3_body header_at
+unfolding body_of position3_body header_at
 returns c =
     let a = c.args in
-    rw c.list_part-satellites.ensures
-    (given _ tables.header _ _ Refused (λ ts q. r.Header (header_of ts) q) r.Refused (after a.count a.end) (λ ts q. refl) (λ f. refl)
-    c.read_header-r.ensures c.in-Header.is refl)
+    rw c.list_part.ensures
+    (made_found a.s.now tables.header 0 header_of (body_of a.count a.end) c.read_header.ensures c.in_ok-found.was)

@@ -8,30 +8,31 @@ use lib.Seq.{length-take-le}
 use Rattle.format.proofs.CallLaws.{write_within_lem}
 use Rattle.sat_ledger.proofs.Printing.{printed_none, printed_ledger, printed_refusal}
 use Rattle.sat_ledger.proofs.output_line.Goals as goal
+use Rattle.sat_ledger.proofs.output_line.Goals.{in-Ok, in-Err}
 
-pub returns-then-input-eq0 : goal.returns-then-input-eq0
-returns-then-input-eq0 c = printed_none _ (omega arith) (omega arith) c.put_line.ensures
+pub returns-in_default : goal.returns-in_default
+returns-in_default c = printed_none (omega arith) c.unwrap_or.ensures _ c.in_default.ensures.cases c.put_line.ensures
 
-pub slice_bounds-out-end : goal.slice_bounds-out-end
-slice_bounds-out-end c =
+pub slice_bounds-ledger-end : goal.slice_bounds-ledger-end
+slice_bounds-ledger-end c =
     let w = c.ledger_write in
-    omega (arith, write_within_lem _ _ _ _ (sym w.ensures.0 ∙ c.in-Done.is), w.auto.out)
+    omega (arith, write_within_lem _ _ _ _ (sym w.ensures.0 ∙ c.in-Ok.is), w.auto.out)
 
 pub slice_bounds-hex_line-end : goal.slice_bounds-hex_line-end
 slice_bounds-hex_line-end c =
     let w = c.ledger_write in
-    let h : c.in-Done.size ≤ length w.new.out = omega (arith, write_within_lem _ _ _ _ (sym w.ensures.0 ∙ c.in-Done.is), w.auto.out) in
+    let h : c.in-Ok.output.length ≤ length w.new.out =
+    omega (arith, write_within_lem _ _ _ _ (sym w.ensures.0 ∙ c.in-Ok.is), w.auto.out) in
     sym (length-take-le _ _ h)
 
-pub returns-in-Done : goal.returns-in-Done
-returns-in-Done c =
+pub returns : goal.returns
+returns c =
     let w = c.ledger_write.ensures in
-    let done = c.in-Done.is in
-    printed_ledger _ (omega arith) (replicate 8198 0) (omega arith) (omega arith) w.0 w.1 done c.hex_line.ensures
-
-pub returns-in-Refused : goal.returns-in-Refused
-returns-in-Refused c =
-    let w = c.ledger_write.ensures in
-    let told = c.in-Refused.is in
-    printed_refusal _ (omega arith) (replicate 8198 0) (omega arith) (omega arith) w.0 (λ i. omega (arith, c.type_inv.input i)) told
-    c.refusal_line.ensures
+    let split = c.in-Some.ensures.cases.0 in
+    let told = c.unwrap_or-2.ensures in
+    elim c.match-ledger_write.branch [
+      | in-Ok k ↦ rw k.text-is (printed_ledger (omega arith) (rw k.line-is at told) _ _ split (replicate 8198 0) (omega arith)
+          w.0 w.1 k.in-Ok.is k.hex_line-line.ensures)
+      | in-Err k ↦ rw k.text-is (printed_refusal (omega arith) (rw k.line-is at told) _ _ split (replicate 8198 0) (omega arith)
+          w.0 (λ i. omega (arith, c.type_inv.input i)) k.in-Err.is (rw k.number.ensures at k.refusal_line-line.ensures))
+    ]

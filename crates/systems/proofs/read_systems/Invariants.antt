@@ -1,11 +1,9 @@
--- `read_systems` meets its contract: the list's own test, and then its clocks one by one.
+-- Behind each turn of `read_systems` one more clock is tested.
 -- Assumes nothing.
-use Prim.Native.Nat.{◌+◌, ◌-◌}
+use Prim.Native.Nat.{◌+◌}
+use Rattle.std.specs.Prelude.{Ok}
 use Rattle.systems.proofs.Lists.{Tested}
 use Rattle.systems.proofs.read_systems.Given as goal
 
 abbrev pub invariant-loop-i : goal.invariant-loop-i
-invariant-loop-i l = Tested l.r l.s (l.at + 10) l.count l.i
-
-abbrev pub decreases-loop-i : goal.decreases-loop-i
-decreases-loop-i l = l.count - l.i
+invariant-loop-i l = Tested (Ok l.list) l.s (l.at + 10) l.list.value.count l.i

@@ -1,44 +1,49 @@
 -- `write_each` meets its contract: an entry a turn, from the place where the last one ended.
 -- Assumes nothing.
 use native.Mathlib.Omega.{arith}
-use Rattle.format.specs.Syntax.{edition_1, end}
-use Rattle.write_ephemeris.specs.Rest.{ephemeris_to}
+use Rattle.format.specs.Syntax.{end}
+use Rattle.format.specs.declared.Edition.TheVariants.{First}
+use Rattle.format.proofs.Passed.{carried}
 use Rattle.write_runs.specs.Went.{outside}
 use Rattle.write_runs.proofs.Lent.{lent}
 use Rattle.write_runs.proofs.Runs.{begin, next, stop, ended}
-use Rattle.write_runs.proofs.WentLaws.{done, stops}
-use Rattle.write_ephemeris.proofs.Each.{as_zero, left_all, left_next, left_end}
+use Rattle.write_runs.proofs.WentLaws.{stops}
+use Rattle.write_ephemeris.specs.Rest.{ephemeris_to}
+use Rattle.write_ephemeris.proofs.Each.{left_all, left_next, left_end}
 use Rattle.write_ephemeris.proofs.write_each.Goals as goal
 
-pub loop-i-init : goal.loop-i-init
-loop-i-init c = (begin c.requires (left_all c.args.accel c.args.count), omega arith)
+pub loop-init : goal.loop-init
+loop-init c = begin c.requires (left_all c.args.accel c.args.count)
 
-pub returns-in_default : goal.returns-in_default
-returns-in_default c =
-    λ e. let a = c.args in
-    let l = c.loop-i in
-    let test' = c.loop-i-test in
-    λ s. stop (ephemeris_to a.accel) l.invariant.0 (λ e k. stops c.in_default.is (c.write_entry-entry.ensures e k))
-    (λ k. left_next a.accel a.count 0 l.i k test'.true) c.in_default.is e (λ _. s) (λ _. s)
+pub write_entry-requires : goal.write_entry-requires
+write_entry-requires c = let p = c.loop.invariant.placed in record { short = p.short; within = p.within; behind = omega arith }
 
-pub overflow_add-there : goal.overflow_add-there
-overflow_add-there c =
-    let p = c.loop-i.invariant.0.placed in
-    let w = done c.in-Done.is (c.write_entry-entry.ensures (outside edition_1) (λ _. end)) in
+pub returns-in_err-entry-clause-ran : goal.returns-in_err-entry-clause-ran
+returns-in_err-entry-clause-ran c =
+    let a = c.args in
+    let l = c.loop in
+    λ e s. rw (carried c.from_residual.ensures) (stop (ephemeris_to a.accel) l.invariant
+    (λ k. left_next a.accel a.count l.step.last l.counter k (omega arith))
+    (λ e k. stops (c.in_err-entry.ensures e k)) e (λ _. s) (λ _. s))
+
+pub overflow_add-step : goal.overflow_add-step
+overflow_add-step c =
+    let p = c.loop.invariant.placed in
+    let w = (c.in_ok-entry.ensures (outside First) (λ _. end)).to in
     omega (arith, w.slack, w.within, p.behind, p.within, p.short)
 
-pub loop-i-preserved : goal.loop-i-preserved
-loop-i-preserved c =
+pub loop-preserved : goal.loop-preserved
+loop-preserved c =
     let a = c.args in
-    let l = c.loop-i in
-    let test' = c.loop-i-test in (
-      as_zero a.accel a.count
-          (next (ephemeris_to a.accel) l.invariant.0 (λ k. left_next a.accel a.count 0 l.i k test'.true)
-          (λ e k. lent l.out _ l.there c.within-from.ensures (done c.in-Done.is (c.write_entry-entry.ensures e k)))),
-      omega arith,
-    )
+    let l = c.loop in
+    next (ephemeris_to a.accel) l.invariant (λ k. left_next a.accel a.count l.step.last l.counter k (omega arith))
+    (λ e k. lent l.out _ l.step.place c.min-from.ensures (c.in_ok-entry.ensures e k).to)
 
 pub returns : goal.returns
 returns c =
-    λ e. let a = c.args in
-    λ s. record { to = ended c.loop-i.invariant.0 e (λ _. s) _ (left_end a.accel a.count 0 c.loop-i.i (λ _. s) (omega arith)) }
+    let a = c.args in
+    let l = c.loop in
+    record {
+      came = l.invariant.placed;
+      ran = λ e s. record { to = ended l.invariant e (λ _. s) _ (left_end a.accel a.count l.step.last l.counter (λ _. s) (omega arith)) };
+    }

@@ -1,77 +1,42 @@
 -- `write_ephemerides` meets its contract: the count, the entries, the covariance, one on top of the other.
 -- Assumes nothing.
-use Rattle.format.specs.Syntax.{edition_1, Syntax, end}
+use Prim.Native.Nat.{ℕ}
+use borrow.Author.Tests.{eq-eqb, ne_eqb}
+use Rattle.format.specs.Syntax.{Syntax, end}
+use Rattle.format.specs.Tables.{times, ephemeris, covariance}
+use Rattle.runs.specs.declared.Flags.{Flags}
 use Rattle.runs.specs.Lines.{run, sign_of, width_of}
 use Rattle.runs.proofs.Names as names
-use Rattle.write_runs.specs.Went.{outside}
-use Rattle.write_runs.proofs.WentLaws.{done, stops, starts, then, go_on, stay, when_yes, when_no}
-use Rattle.write_runs.proofs.Runs.{placed_on}
-use borrow.Author.Tests.{eq-eqb, ne_eqb}
-use Prim.Native.Nat.{ℕ}
-use Rattle.format.specs.Tables.{times, ephemeris, covariance}
+use Rattle.format.proofs.Passed.{carried}
+use Rattle.write_runs.proofs.WentLaws.{stops, starts, on, stay, when_yes, when_no}
 use Rattle.write_ephemeris.proofs.write_ephemerides.Goals as goal
 
-abbrev rest : ℕ → ℕ → ℕ → Syntax
-rest accel flag n = times n (ephemeris accel) (covariance flag)
+abbrev rest : Flags → ℕ → Syntax
+rest f n = times n (ephemeris f.acceleration) (covariance f.covariance)
 
-pub returns-in_default : goal.returns-in_default
+pub returns-in_err-count : goal.returns-in_err-count
 unfolding run sign_of width_of
-returns-in_default c =
-    λ e. let a = c.args in
-    stops c.in_default.is (c.write_run-number.ensures.ran e names.count (rest a.accel a.cov))
+returns-in_err-count c = rw (carried c.from_residual.ensures) (λ e. stops (c.in_err-count.ensures.ran e names.count (rest c.args.flags)))
 
-pub write_each-each-requires : goal.write_each-each-requires
+pub returns-in_err-each : goal.returns-in_err-each
 unfolding run sign_of width_of
-write_each-each-requires c =
-    let a = c.args in
-    let pre = c.requires in
-    let write-run = c.write_run-number in
-    placed_on pre ((done c.in-Done.is (write-run.ensures.ran (outside edition_1) names.count (rest a.accel a.cov))))
+returns-in_err-each c =
+    let f = c.args.flags in
+    rw (carried c.from_residual-in_err-each.ensures) (λ e. on (c.in_ok-count.ensures.ran e names.count (rest f))
+    (stops (c.in_err-each.ensures.ran e (covariance f.covariance))))
 
-pub returns-in_default-each : goal.returns-in_default-each
+pub returns-then-flags-eq1 : goal.returns-then-flags-eq1
 unfolding run sign_of width_of
-returns-in_default-each c =
-    λ e. let a = c.args in
-    let write-run = c.write_run-number in
-    then ((done c.in-Done.is (write-run.ensures.ran e names.count (rest a.accel a.cov))))
-    (stops c.in_default-each.is (c.write_each-each.ensures e (covariance a.cov)))
-
-pub write_needed-requires : goal.write_needed-requires
-unfolding run sign_of width_of
-write_needed-requires c =
-    let a = c.args in
-    let pre = c.requires in
-    let write-each = c.write_each-each in
-    let write-run = c.write_run-number in record {
-      placed = placed_on pre
-          ((go_on ((done c.in-Done.is (write-run.ensures.ran (outside edition_1) names.count (rest a.accel a.cov))))
-          (done c.in-Done-each.is (write-each.ensures (outside edition_1) (covariance a.cov)))));
-      t = tt;
-    }
-
-pub returns-then-cov-eq1 : goal.returns-then-cov-eq1
-unfolding run sign_of width_of
-returns-then-cov-eq1 c =
-    λ e. let a = c.args in
-    let write-each = c.write_each-each in
-    let write-run = c.write_run-number in
-    then
-    ((go_on ((done c.in-Done.is (write-run.ensures.ran e names.count (rest a.accel a.cov))))
-    (done c.in-Done-each.is (write-each.ensures e (covariance a.cov)))))
-    (starts (when_yes _ _ _ _ _ _ (eq-eqb _ _ c.if-cov-eq1.true))
-    (c.write_needed.ensures.ran e names.covariance (λ _. end)))
+returns-then-flags-eq1 c =
+    let f = c.args.flags in
+    λ e. on (c.in_ok-count.ensures.ran e names.count (rest f))
+    (on (c.in_ok-each.ensures.ran e (covariance f.covariance))
+    (starts (when_yes _ _ _ _ _ _ (eq-eqb _ _ c.if-flags-eq1.true)) (c.write_needed.ensures.ran e names.covariance (λ _. end))))
 
 pub returns : goal.returns
 unfolding run sign_of width_of
 returns c =
-    λ e. let a = c.args in
-    let write-each = c.write_each-each in
-    let write-run = c.write_run-number in
-    then
-    ((go_on ((done c.in-Done.is (write-run.ensures.ran e names.count (rest a.accel a.cov))))
-    (done c.in-Done-each.is (write-each.ensures e (covariance a.cov)))))
-    (starts (when_no _ _ _ _ _ _ (ne_eqb _ _ c.if-cov-eq1.false))
-    (record {
-      to = stay ((go_on ((done c.in-Done.is (write-run.ensures.ran e names.count (rest a.accel a.cov))))
-          (done c.in-Done-each.is (write-each.ensures e (covariance a.cov))))).within;
-    }))
+    let f = c.args.flags in
+    λ e. on (c.in_ok-count.ensures.ran e names.count (rest f))
+    (on (c.in_ok-each.ensures.ran e (covariance f.covariance))
+    (starts (when_no _ _ _ _ _ _ (ne_eqb _ _ c.if-flags-eq1.false)) (record { to = stay c.in_ok-each.ensures.came.within })))

@@ -1,62 +1,37 @@
 -- `write_metadata` meets its contract: by its flag, with each usable time by its own.
 -- Assumes nothing.
-use Rattle.format.specs.Syntax.{edition_1, Syntax, end}
+use Prim.Native.Nat.{ℕ}
+use Rattle.format.specs.Syntax.{Syntax}
+use Rattle.format.specs.Tables.{usable}
+use Rattle.format.specs.declared.Fault.TheVariants.{UsableStartCut, UsableStopCut}
+use Rattle.runs.specs.declared.Flags.{Flags}
 use Rattle.runs.specs.Lines.{run, sign_of, width_of}
 use Rattle.runs.proofs.Names as names
-use Rattle.write_runs.specs.Went.{outside}
-use Rattle.write_runs.proofs.WentLaws.{done, stops, then, go_on}
-use Rattle.write_runs.proofs.Runs.{placed_on}
-use Prim.Native.Nat.{ℕ}
-use Rattle.format.specs.Tables.{usable}
+use Rattle.format.proofs.Passed.{carried}
+use Rattle.write_runs.proofs.WentLaws.{stops, on}
 use Rattle.write_ephemeris.proofs.write_metadata.Goals as goal
 
-abbrev rest : ℕ → ℕ → Syntax → Syntax
-rest start stop s = usable 17 "usable_start_time" start (usable 18 "usable_stop_time" stop s)
+abbrev last : Flags → Syntax → Syntax
+last f s = usable UsableStopCut "usable_stop_time" f.stop s
 
-pub returns-in_default : goal.returns-in_default
-unfolding run sign_of width_of
-returns-in_default c =
-    λ e. let a = c.args in
-    λ s. stops c.in_default.is
-    (c.write_needed-fixed.ensures.ran e names.metadata (λ _. rest a.start a.stop s))
+abbrev rest : Flags → Syntax → ℕ → Syntax
+rest f s v = usable UsableStartCut "usable_start_time" f.start (last f s)
 
-pub write_usable-from-requires : goal.write_usable-from-requires
+pub returns-in_err-fixed-clause-ran : goal.returns-in_err-fixed-clause-ran
 unfolding run sign_of width_of
-write_usable-from-requires c =
-    let a = c.args in
-    let pre = c.requires in
-    let write-needed = c.write_needed-fixed in
-    let s : Syntax = end in placed_on pre
-    ((done c.in-Done.is (write-needed.ensures.ran (outside edition_1) names.metadata (λ _. rest a.start a.stop s))))
+returns-in_err-fixed-clause-ran c =
+    λ e s. rw (carried c.from_residual.ensures) (stops (c.in_err-fixed.ensures.ran e names.metadata (rest c.args.flags s)))
 
-pub returns-in_default-from : goal.returns-in_default-from
+pub returns-in_err-start-clause-ran : goal.returns-in_err-start-clause-ran
 unfolding run sign_of width_of
-returns-in_default-from c =
-    λ e. let a = c.args in
-    let write-needed = c.write_needed-fixed in
-    λ s. then ((done c.in-Done.is (write-needed.ensures.ran e names.metadata (λ _. rest a.start a.stop s))))
-    (stops c.in_default-from.is
-    (c.write_usable-from.ensures e "usable_start_time" (usable 18 "usable_stop_time" a.stop s)))
+returns-in_err-start-clause-ran c =
+    let f = c.args.flags in
+    λ e s. rw (carried c.from_residual-in_err-start.ensures) (on (c.in_ok-fixed.ensures.ran e names.metadata (rest f s))
+    (stops (c.in_err-start.ensures.ran e "usable_start_time" (last f s))))
 
-pub write_usable-requires : goal.write_usable-requires
+pub returns-clause-ran : goal.returns-clause-ran
 unfolding run sign_of width_of
-write_usable-requires c =
-    let a = c.args in
-    let pre = c.requires in
-    let write-needed = c.write_needed-fixed in
-    let write-usable = c.write_usable-from in
-    let s : Syntax = end in placed_on pre
-    ((go_on ((done c.in-Done.is (write-needed.ensures.ran (outside edition_1) names.metadata (λ _. rest a.start a.stop s))))
-    (done c.in-Done-from.is (write-usable.ensures (outside edition_1) "usable_start_time" (usable 18 "usable_stop_time" a.stop s)))))
-
-pub returns : goal.returns
-unfolding run sign_of width_of
-returns c =
-    λ e. let a = c.args in
-    let write-needed = c.write_needed-fixed in
-    let write-usable = c.write_usable-from in
-    λ s. then
-    ((go_on ((done c.in-Done.is (write-needed.ensures.ran e names.metadata (λ _. rest a.start a.stop s))))
-    (done c.in-Done-from.is
-    (write-usable.ensures e "usable_start_time" (usable 18 "usable_stop_time" a.stop s)))))
-    (c.write_usable.ensures e "usable_stop_time" s)
+returns-clause-ran c =
+    let f = c.args.flags in
+    λ e s. on (c.in_ok-fixed.ensures.ran e names.metadata (rest f s))
+    (on (c.in_ok-start.ensures.ran e "usable_start_time" (last f s)) (c.write_usable-2.ensures.ran e "usable_stop_time" s))

@@ -3,65 +3,37 @@
 use native.Mathlib.Omega.{arith}
 use Rattle.format.specs.Tables.{mode}
 use Rattle.runs.specs.Lines.{sign_of, width_of, size_of, run}
-use Rattle.write_runs.proofs.WentLaws.{done, stops, then, go_on}
-use Rattle.write_runs.proofs.Runs.{placed_on, moved_done}
+use Rattle.format.proofs.Passed.{carried}
+use Rattle.write_runs.specs.Went.{inside}
+use Rattle.write_runs.proofs.WentLaws.{stops, on, go_on}
 use Rattle.write_plans.proofs.SlotLaws.{then_ragged}
 use Rattle.write_plans.proofs.Names.{mode_names, time_names, after_mode}
-use Rattle.format.specs.Syntax.{edition_1}
-use Rattle.write_runs.specs.Went.{inside}
 use Rattle.write_plans.proofs.write_hopping.Goals as goal
 
-pub returns-in_default : goal.returns-in_default
+pub returns-in_err-head : goal.returns-in_err-head
 unfolding run sign_of width_of
-returns-in_default c =
-    let a = c.args in
-    λ ed. stops c.in_default.is (c.write_run-head.ensures.ran (inside ed a.stop) mode_names after_mode)
+returns-in_err-head c =
+    rw (carried c.from_residual.ensures) (λ ed. stops (c.in_err-head.ensures.ran (inside ed c.args.stop) mode_names after_mode))
 
-pub write_run-clocks-requires : goal.write_run-clocks-requires
-write_run-clocks-requires c =
-    let a = c.args in
-    let pre = c.requires in
-    let write-run = c.write_run-head in
-    record { placed = placed_on pre.placed (done c.in-Done.is (write-run.ensures.ran (inside edition_1 a.stop) mode_names after_mode)); t = tt }
-
-pub returns-in_default-clocks : goal.returns-in_default-clocks
+pub returns-in_err-clocks : goal.returns-in_err-clocks
 unfolding run sign_of width_of
-returns-in_default-clocks c =
-    let a = c.args in
-    let write-run = c.write_run-head in
-    λ ed. then (done c.in-Done.is (write-run.ensures.ran (inside ed a.stop) mode_names after_mode))
-    (stops c.in_default-clocks.is
-    (c.write_run-clocks.ensures.ran (inside ed a.stop) time_names (λ _. mode c.in-Done.kind)))
+returns-in_err-clocks c =
+    let stop = c.args.stop in
+    rw (carried c.from_residual-in_err-clocks.ensures) (λ ed. on (c.in_ok-head.ensures.ran (inside ed stop) mode_names after_mode)
+    (stops (c.in_err-clocks.ensures.ran (inside ed stop) time_names (λ _. mode c.in_ok-head.head.last))))
 
-pub write_mode-requires : goal.write_mode-requires
-unfolding run sign_of width_of size_of
-write_mode-requires c =
-    let a = c.args in
-    let pre = c.requires in
-    let write-run = c.write_run-head in
-    let write-run2 = c.write_run-clocks in record {
-      placed = placed_on pre.placed
-          (go_on (done c.in-Done.is (write-run.ensures.ran (inside edition_1 a.stop) mode_names after_mode))
-          (done c.in-Done-clocks.is (write-run2.ensures.ran (inside edition_1 a.stop) time_names (λ _. mode c.in-Done.kind))));
-      at_value = (
-        omega (
-          arith,
-          (moved_done c.in-Done.is write-run.ensures.moved).0,
-          (moved_done c.in-Done-clocks.is write-run2.ensures.moved).0,
-          pre.at_value.0,
-        ),
-        pre.at_value.1,
-      );
-    }
+pub write_mode-requires-clause-at_value : goal.write_mode-requires-clause-at_value
+unfolding width_of size_of
+write_mode-requires-clause-at_value c =
+    (omega (arith, c.in_ok-head.ensures.moved.to.0, c.in_ok-clocks.ensures.moved.to.0, c.requires.at_value.0), c.requires.at_value.1)
 
 pub returns : goal.returns
 unfolding run sign_of width_of size_of
 returns c =
-    let a = c.args in
-    let write-run = c.write_run-head in
-    let write-run2 = c.write_run-clocks in
+    let stop = c.args.stop in
+    let head = c.in_ok-head.ensures in
+    let clocks = c.in_ok-clocks.ensures in
     λ ed. then_ragged
-    (go_on (done c.in-Done.is (write-run.ensures.ran (inside ed a.stop) mode_names after_mode))
-    (done c.in-Done-clocks.is (write-run2.ensures.ran (inside ed a.stop) time_names (λ _. mode c.in-Done.kind))))
-    (omega (arith, (moved_done c.in-Done.is write-run.ensures.moved), (moved_done c.in-Done-clocks.is write-run2.ensures.moved)))
+    (go_on (head.ran (inside ed stop) mode_names after_mode).to (clocks.ran (inside ed stop) time_names (λ _. mode c.in_ok-head.head.last)).to)
+    (omega (arith, head.moved.to, clocks.moved.to))
     (c.write_mode.ensures ed)

@@ -1,32 +1,26 @@
 -- `write_plan` goes through a plan.
 -- Assumes nothing.
+use Prim.Native.Nat.{ℕ}
 use native.Mathlib.Omega.{arith}
-use Rattle.format.specs.Syntax.{edition_1, plan}
+use Rattle.format.specs.Syntax.{Syntax, plan}
 use Rattle.format.specs.Tables.{hopping, beamhopping}
 use Rattle.runs.specs.Lines.{sign_of, width_of, size_of, run}
-use Rattle.write_runs.specs.Went.{outside}
-use Rattle.write_runs.proofs.WentLaws.{done, stops, then}
-use Rattle.write_runs.proofs.Runs.{placed_on, moved_done}
+use Rattle.format.proofs.Passed.{carried}
+use Rattle.write_runs.proofs.WentLaws.{stops, on}
 use Rattle.write_plans.proofs.Names.{plan_names}
 use Rattle.write_plans.proofs.write_plan.Goals as goal
 
-pub returns-in_default : goal.returns-in_default
-unfolding beamhopping run sign_of width_of
-returns-in_default c = stops c.in_default.is (c.write_run-head.ensures.ran _ plan_names (λ _. plan "plan_length" hopping))
+abbrev rest : ℕ → Syntax
+rest v = plan "plan_length" hopping
 
-pub write_ended-requires : goal.write_ended-requires
-unfolding run sign_of width_of size_of
-write_ended-requires c =
-    let pre = c.requires in
-    let write-run = c.write_run-head in record {
-      placed = placed_on pre.placed (done c.in-Done.is (write-run.ensures.ran (outside edition_1) plan_names (λ _. plan "plan_length" hopping)));
-      at_value = omega
-          (arith, (moved_done c.in-Done.is write-run.ensures.moved).0, pre.at_value);
-    }
+pub returns-in_err-head : goal.returns-in_err-head
+unfolding beamhopping run sign_of width_of
+returns-in_err-head c = rw (carried c.from_residual.ensures) (stops (c.in_err-head.ensures.ran _ plan_names rest))
+
+pub write_ended-requires-clause-at_value : goal.write_ended-requires-clause-at_value
+unfolding width_of size_of
+write_ended-requires-clause-at_value c = omega (arith, c.in_ok-head.ensures.moved.to.0, c.requires.at_value)
 
 pub returns : goal.returns
 unfolding beamhopping run sign_of width_of
-returns c =
-    let write-run = c.write_run-head in
-    then (done c.in-Done.is (write-run.ensures.ran _ plan_names (λ _. plan "plan_length" hopping)))
-    c.write_ended.ensures
+returns c = on (c.in_ok-head.ensures.ran _ plan_names rest) c.write_ended.ensures

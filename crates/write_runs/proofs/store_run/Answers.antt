@@ -7,52 +7,44 @@ use lib.Pow.{pow_pos}
 use lib.ListN.{length, drop, get_or}
 use Rattle.runs.specs.Lines.{line, head_name}
 use Rattle.runs.proofs.MarkLaws.{marks_at}
-use Rattle.write_runs.specs.Steps.{last_of}
-use Rattle.write_runs.proofs.Runs.{lines_next, lines_end, balance_next, balance_end, moved_no, begin, last_in, no_last, turn, stop, ended}
+use Rattle.format.proofs.Passed.{carried}
+use Rattle.write_runs.proofs.Runs.{lines_next, lines_end, balance_next, balance_end, begin, last_in, turn, stop, ended}
 use Rattle.write_runs.proofs.store_run.Goals as goal
 
-pub loop-i-init : goal.loop-i-init
-loop-i-init c = (λ nms. begin c.requires.placed (λ k. refl), omega arith, pow_pos _, (refl, refl))
+pub loop-mark-init : goal.loop-mark-init
+loop-mark-init c = (λ nms. begin c.requires.placed (λ k. refl), pow_pos _, (refl, refl))
 
-pub write_line-step-requires : goal.write_line-step-requires
-write_line-step-requires c =
-    let a = c.args in
-    let l = c.loop-i in
-    let pre = c.requires in
-    record { placed = (l.invariant.0 []).placed; t = marks_at a.marks.now l.i pre.t (omega arith) }
+pub write_line-requires : goal.write_line-requires
+write_line-requires c = record { placed = (c.loop-mark.invariant.0 []).placed; valid = marks_at c.args.marks.now c.loop-mark.mark-index c.requires.valid (omega arith) }
 
-pub returns-in_default : goal.returns-in_default
-returns-in_default c =
-    let a = c.args in
-    let l = c.loop-i in
-    let test' = c.loop-i-test in record {
-      ran = λ e nms k. stop (line (head_name (drop l.i nms)) (get_or a.marks.now l.i 0)) (l.invariant.0 nms)
-          (λ e k. c.write_line-step.ensures.ran e (head_name (drop l.i nms)) k)
-          (λ k. lines_next nms _ _ _ k test'.true) c.in_default.is e k k;
-      result_bound = no_last last_of c.in_default.is _ refl;
-      moved = moved_no _ _ _ c.in_default.is;
-    }
+pub returns-in_err-step-clause-ran : goal.returns-in_err-step-clause-ran
+returns-in_err-step-clause-ran c =
+    let l = c.loop-mark in
+    λ e nms k. rw (carried c.from_residual.ensures)
+    (stop (line (head_name (drop l.mark-index nms)) (get_or c.args.marks.now l.mark-index 0)) (l.invariant.0 nms)
+    (λ k. lines_next nms _ _ _ k (omega arith)) (λ e k. c.in_err-step.ensures.ran e (head_name (drop l.mark-index nms)) k) e k k)
 
-pub loop-i-preserved : goal.loop-i-preserved
-loop-i-preserved c =
+pub loop-mark-preserved : goal.loop-mark-preserved
+loop-mark-preserved c =
     let a = c.args in
-    let l = c.loop-i in
-    let test' = c.loop-i-test in
-    let write-line = c.write_line-step in (
-      λ nms. turn (line (head_name (drop l.i nms)) (get_or a.marks.now l.i 0)) (l.invariant.0 nms)
-          (λ e k. write-line.ensures.ran e (head_name (drop l.i nms)) k) (λ k. lines_next nms _ _ _ k test'.true) c.in-Done.is,
-      omega arith,
-      last_in last_of c.in-Done.is a.marks.now l.i write-line.ensures.result_bound,
-      balance_next a.marks.now a.at
-          a.place l.here l.there l.i test'.true c.in-Done.is write-line.ensures.moved l.invariant.3,
+    let l = c.loop-mark in
+    let ms = a.marks.now in
+    let step = c.in_ok-step.ensures in (
+      λ nms. turn (line (head_name (drop l.mark-index nms)) (get_or ms l.mark-index 0)) (l.invariant.0 nms)
+          (λ k. lines_next nms _ _ _ k (omega arith))
+          (λ e k. step.ran e (head_name (drop l.mark-index nms)) k),
+      last_in ms l.mark-index step.result_bound,
+      balance_next ms a.at a.place l.step.at l.step.place l.mark-index (omega arith) step.moved l.invariant.2,
     )
 
 pub returns : goal.returns
 returns c =
-    let z : c.loop-i.i ≡ length c.args.marks.now = omega arith in
-    let a = c.args in record {
-      ran = λ e nms k. record { to = ended (c.loop-i.invariant.0 nms) e k _ (lines_end nms a.marks.now _ c.loop-i.i k z) };
-      result_bound = rw (← z) c.loop-i.invariant.2;
-      moved = record
-          { to = balance_end a.marks.now a.at a.place c.loop-i.here c.loop-i.there c.loop-i.i z c.loop-i.invariant.3 };
+    let a = c.args in
+    let l = c.loop-mark in
+    let z : l.mark-index ≡ length a.marks.now = omega arith in
+    record {
+      ran = λ e nms k. record { to = ended (l.invariant.0 nms) e k _ (lines_end nms a.marks.now _ l.mark-index k z) };
+      came = (l.invariant.0 []).placed;
+      result_bound = rw (← z) l.invariant.1;
+      moved = record { to = balance_end a.marks.now a.at a.place l.step.at l.step.place l.mark-index z l.invariant.2 };
     }

@@ -4,8 +4,8 @@ use native.Mathlib.Omega.{arith}
 use Rattle.write_runs.proofs.WentLaws.{need_no, need_yes, starts}
 use Rattle.write_runs.proofs.write_counted.Goals as goal
 
-pub returns-then-have-need : goal.returns-then-have-need
-returns-then-have-need c = λ e nms s. record { to = need_no _ e _ _ _ _ c.requires.placed.within (omega arith) }
+pub returns-then-have-need-clause-ran : goal.returns-then-have-need-clause-ran
+returns-then-have-need-clause-ran c = λ e nms s. record { to = need_no _ e _ _ _ _ c.requires.placed.within (omega arith) }
 
-pub returns : goal.returns
-returns c = λ e nms s. starts (need_yes _ e _ _ _ _ (omega arith)) (c.write_rounds.ensures e nms s)
+pub returns-clause-ran : goal.returns-clause-ran
+returns-clause-ran c = λ e nms s. starts (need_yes _ e _ _ _ _ (omega arith)) (c.write_rounds.ensures.ran e nms s)

@@ -3,38 +3,36 @@
 use mathlib.Core.List.{[]}
 use native.Mathlib.Omega.{arith}
 use Rattle.runs.specs.Lines.{run}
-use Rattle.write_runs.proofs.Runs.{rounds_next, rounds_end, rounds_all, as_zero, begin, turn, stop, ended}
+use Rattle.format.proofs.Passed.{carried}
+use Rattle.write_runs.proofs.Runs.{rounds_next, rounds_end, rounds_all, begin, turn, stop, ended}
 use Rattle.write_runs.proofs.write_rounds.Goals as goal
 
-pub loop-i-init : goal.loop-i-init
-loop-i-init c =
-    let a = c.args in
-    (λ nms. begin c.requires.placed (rounds_all nms a.marks.now a.count), omega arith)
+pub loop-init : goal.loop-init
+loop-init c = λ nms. begin c.requires.placed (rounds_all nms c.args.marks.now c.args.count)
 
-pub write_run-step-requires : goal.write_run-step-requires
-write_run-step-requires c = record { placed = (c.loop-i.invariant.0 []).placed; t = c.requires.t }
+pub write_run-requires : goal.write_run-requires
+write_run-requires c = record { placed = (c.loop.invariant []).placed; valid = c.requires.valid }
 
-pub returns-in_default : goal.returns-in_default
-returns-in_default c =
+pub returns-in_err-step-clause-ran : goal.returns-in_err-step-clause-ran
+returns-in_err-step-clause-ran c =
     let a = c.args in
-    let l = c.loop-i in
-    let test' = c.loop-i-test in
-    λ e nms s. stop (run nms 0 a.marks.now) (l.invariant.0 nms) (λ e k. c.write_run-step.ensures.ran e nms k)
-    (λ k. rounds_next nms a.marks.now a.count 0 l.i k test'.true) c.in_default.is e (λ _. s) (λ _. s)
+    let l = c.loop in
+    rw (carried c.from_residual.ensures) (λ e nms s. stop (run nms 0 a.marks.now) (l.invariant nms)
+    (λ k. rounds_next nms a.marks.now a.count l.step.last l.counter k (omega arith))
+    (λ e k. c.in_err-step.ensures.ran e nms k) e (λ _. s) (λ _. s))
 
-pub loop-i-preserved : goal.loop-i-preserved
-loop-i-preserved c =
+pub loop-preserved : goal.loop-preserved
+loop-preserved c =
     let a = c.args in
-    let l = c.loop-i in
-    let test' = c.loop-i-test in (
-      λ nms. as_zero nms a.marks.now a.count
-          (turn (run nms 0 a.marks.now) (l.invariant.0 nms) (λ e k. c.write_run-step.ensures.ran e nms k)
-          (λ k. rounds_next nms a.marks.now a.count 0 l.i k test'.true) c.in-Done.is),
-      omega arith,
-    )
+    let l = c.loop in
+    λ nms. turn (run nms 0 a.marks.now) (l.invariant nms)
+    (λ k. rounds_next nms a.marks.now a.count l.step.last l.counter k (omega arith)) (λ e k. c.in_ok-step.ensures.ran e nms k)
 
 pub returns : goal.returns
 returns c =
     let a = c.args in
-    λ e nms s. record
-    { to = ended (c.loop-i.invariant.0 nms) e (λ _. s) _ (rounds_end nms a.marks.now a.count 0 c.loop-i.i (λ _. s) (omega arith)) }
+    let l = c.loop in
+    record {
+      came = (l.invariant []).placed;
+      ran = λ e nms s. record { to = ended (l.invariant nms) e (λ _. s) _ (rounds_end nms a.marks.now a.count l.step.last l.counter (λ _. s) (omega arith)) };
+    }

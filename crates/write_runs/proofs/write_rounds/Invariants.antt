@@ -1,6 +1,5 @@
 -- `write_rounds` meets its contract: the run a turn.
 -- Assumes nothing.
-use Prim.Native.Nat.{◌-◌, ◌≤◌}
 use mathlib.Core.List.{List}
 use Rattle.format.specs.Syntax.{Name}
 use Rattle.format.specs.Tables.{times}
@@ -8,8 +7,5 @@ use Rattle.runs.specs.Lines.{run_of}
 use Rattle.write_runs.proofs.Runs.{Along, rounds}
 use Rattle.write_runs.proofs.write_rounds.Given as goal
 
-abbrev pub invariant-loop-i : goal.invariant-loop-i
-invariant-loop-i l = ((nms : List Name) → Along (λ k. times l.count (run_of nms l.marks) (k 0)) (rounds nms l.marks l.count) l.body l.at l.place l.initial.out l.here l.there 0 l.i l.out) × (l.i ≤ l.count)
-
-abbrev pub decreases-loop-i : goal.decreases-loop-i
-decreases-loop-i l = l.count - l.i
+abbrev pub invariant-loop : goal.invariant-loop
+invariant-loop l = (nms : List Name) → Along (λ k. times l.count (run_of nms l.marks) (k 0)) (rounds nms l.marks l.count) l.body l.at l.place l.initial.out l.step.at l.step.place l.step.last l.counter l.out

@@ -4,148 +4,70 @@ use Prim.Native.Nat.{ℕ}
 use native.Mathlib.Omega.{arith}
 use borrow.Author.Tests.{eq-eqb, ne_eqb}
 use lib.Dec.{eqb}
-use Rattle.format.specs.Syntax.{edition_1, Syntax, when}
+use Rattle.format.specs.Syntax.{Syntax, when}
 use Rattle.format.specs.Tables.{u, fragment, centre, delivery}
 use Rattle.runs.specs.Lines.{run, sign_of, width_of}
 use Rattle.runs.proofs.Names as names
-use Rattle.write_runs.specs.Went.{outside}
-use Rattle.write_runs.proofs.WentLaws.{done, stops, starts, then, go_on, when_yes, when_no}
-use Rattle.write_runs.specs.Steps.{last_of}
-use Rattle.write_runs.proofs.Runs.{placed_on, last_of_lem}
+use Rattle.format.proofs.Passed.{carried}
+use Rattle.write_runs.proofs.WentLaws.{stops, starts, on, when_yes, when_no}
 use Rattle.write_tables.specs.Lists.{lists}
 use Rattle.write_tables.proofs.write_fragment.Goals as goal
 
 abbrev middle : ℕ → Syntax
 middle first = when (eqb first 1) centre (u "reserved_zero_future_use_4" 4 delivery)
 
-pub returns-in_default : goal.returns-in_default
+-- what follows the first run
+abbrev behind : ℕ → Syntax
+behind first = u "last_occurrence" 1 (middle first)
+
+pub returns-in_err-cell : goal.returns-in_err-cell
 unfolding fragment run sign_of width_of
-returns-in_default c =
-    λ e. stops c.in_default.is (c.write_run-cell.ensures.ran e names.cell (λ v. u "last_occurrence" 1 (middle v)))
+returns-in_err-cell c = rw (carried c.from_residual.ensures) (λ e. stops (c.in_err-cell.ensures.ran e names.cell behind))
 
-pub write_run-flag-requires : goal.write_run-flag-requires
-write_run-flag-requires c =
-    let pre = c.requires in
-    let write-run = c.write_run-cell in record { placed = placed_on pre (done c.in-Done.is (write-run.ensures.ran (outside edition_1) names.cell (λ v. u "last_occurrence" 1 (middle v)))); t = tt }
-
-pub returns-in_default-flag : goal.returns-in_default-flag
+pub returns-in_err-flag : goal.returns-in_err-flag
 unfolding fragment run sign_of width_of
-returns-in_default-flag c =
-    λ e. let write-run = c.write_run-cell in
-    then (done c.in-Done.is (write-run.ensures.ran e names.cell (λ v. u "last_occurrence" 1 (middle v))))
-    (stops c.in_default-flag.is
-    (c.write_run-flag.ensures.ran e names.last ((λ _. middle c.in-Done.first))))
+returns-in_err-flag c =
+    rw (carried c.from_residual-in_err-flag.ensures) (λ e. on (c.in_ok-cell.ensures.ran e names.cell behind)
+    (stops (c.in_err-flag.ensures.ran e names.last (λ _. middle c.in_ok-cell.cell.last))))
 
-pub write_needed-centre-requires : goal.write_needed-centre-requires
-unfolding run sign_of width_of
-write_needed-centre-requires c =
-    let pre = c.requires in
-    let write-run = c.write_run-cell in
-    let write-run2 = c.write_run-flag in record {
-      placed = placed_on pre
-          (go_on (done c.in-Done.is (write-run.ensures.ran (outside edition_1) names.cell (λ v. u "last_occurrence" 1 (middle v))))
-          (done c.in-Done-flag.is
-          (write-run2.ensures.ran (outside edition_1) names.last ((λ _. middle c.in-Done.first)))));
-      t = tt;
-    }
-
-pub returns-in_default-centre : goal.returns-in_default-centre
+pub returns-in_err-centre : goal.returns-in_err-centre
 unfolding fragment run sign_of width_of
-returns-in_default-centre c =
-    λ e. let if1 = c.if-first-eq1 in
-    let write-run = c.write_run-cell in
-    let write-run2 = c.write_run-flag in
-    then
-    (go_on (done c.in-Done.is (write-run.ensures.ran e names.cell (λ v. u "last_occurrence" 1 (middle v))))
-    (done c.in-Done-flag.is (write-run2.ensures.ran e names.last ((λ _. middle c.in-Done.first)))))
-    ((starts (when_yes _ _ _ _ _ _ (eq-eqb _ _ if1.true)))
-    (stops c.in_default-centre.is (c.write_needed-centre.ensures.ran e names.centre lists)))
+returns-in_err-centre c =
+    let first = c.in_ok-cell.cell.last in
+    rw (carried c.from_residual-in_err-centre.ensures) (λ e. on (c.in_ok-cell.ensures.ran e names.cell behind)
+    (on (c.in_ok-flag.ensures.ran e names.last (λ _. middle first))
+    (starts (when_yes _ _ _ _ _ _ (eq-eqb _ _ c.if-cell-eq1.true)) (stops (c.in_err-centre.ensures.ran e names.centre lists)))))
 
-pub write_lists-requires : goal.write_lists-requires
-unfolding run sign_of width_of
-write_lists-requires c =
-    let if1 = c.if-first-eq1 in
-    let pre = c.requires in
-    let write-needed = c.write_needed-centre in
-    let write-run = c.write_run-cell in
-    let write-run2 = c.write_run-flag in record {
-      placed = placed_on pre
-          (go_on
-          (go_on (done c.in-Done.is (write-run.ensures.ran (outside edition_1) names.cell (λ v. u "last_occurrence" 1 (middle v))))
-          (done c.in-Done-flag.is (write-run2.ensures.ran (outside edition_1) names.last ((λ _. middle c.in-Done.first)))))
-          (done c.in-Done-centre.is
-          ((starts (when_yes _ _ _ _ _ _ (eq-eqb _ _ if1.true))) (write-needed.ensures.ran (outside edition_1) names.centre lists))));
-      count_bound = omega (arith, last_of_lem last_of c.in-Done-centre.is write-needed.ensures.result_bound);
-    }
+pub write_lists-requires-clause-count_bound : goal.write_lists-requires-clause-count_bound
+unfolding width_of
+write_lists-requires-clause-count_bound c = omega (arith, c.in_ok-centre.ensures.result_bound)
 
-pub returns-then-first-eq1 : goal.returns-then-first-eq1
+pub returns-then-cell-eq1 : goal.returns-then-cell-eq1
 unfolding fragment run sign_of width_of
-returns-then-first-eq1 c =
-    λ e. let if1 = c.if-first-eq1 in
-    let write-needed = c.write_needed-centre in
-    let write-run = c.write_run-cell in
-    let write-run2 = c.write_run-flag in
-    then
-    (go_on
-    (go_on (done c.in-Done.is (write-run.ensures.ran e names.cell (λ v. u "last_occurrence" 1 (middle v))))
-    (done c.in-Done-flag.is (write-run2.ensures.ran e names.last ((λ _. middle c.in-Done.first)))))
-    (done c.in-Done-centre.is
-    ((starts (when_yes _ _ _ _ _ _ (eq-eqb _ _ if1.true))) (write-needed.ensures.ran e names.centre lists))))
-    (c.write_lists.ensures e)
+returns-then-cell-eq1 c =
+    let first = c.in_ok-cell.cell.last in
+    λ e. on (c.in_ok-cell.ensures.ran e names.cell behind)
+    (on (c.in_ok-flag.ensures.ran e names.last (λ _. middle first))
+    (starts (when_yes _ _ _ _ _ _ (eq-eqb _ _ c.if-cell-eq1.true))
+    (on (c.in_ok-centre.ensures.ran e names.centre lists) (c.write_lists.ensures e))))
 
-pub write_run-none-requires : goal.write_run-none-requires
-unfolding run sign_of width_of
-write_run-none-requires c =
-    let pre = c.requires in
-    let write-run = c.write_run-cell in
-    let write-run2 = c.write_run-flag in record {
-      placed = placed_on pre
-          (go_on (done c.in-Done.is (write-run.ensures.ran (outside edition_1) names.cell (λ v. u "last_occurrence" 1 (middle v))))
-          (done c.in-Done-flag.is
-          (write-run2.ensures.ran (outside edition_1) names.last ((λ _. middle c.in-Done.first)))));
-      t = tt;
-    }
-
-pub returns-in_default-none : goal.returns-in_default-none
+pub returns-in_err-none : goal.returns-in_err-none
 unfolding fragment run sign_of width_of
-returns-in_default-none c =
-    λ e. let if1 = c.if-first-eq1 in
-    let write-run = c.write_run-cell in
-    let write-run2 = c.write_run-flag in
-    then
-    (go_on (done c.in-Done.is (write-run.ensures.ran e names.cell (λ v. u "last_occurrence" 1 (middle v))))
-    (done c.in-Done-flag.is (write-run2.ensures.ran e names.last ((λ _. middle c.in-Done.first)))))
-    ((starts (when_no _ _ _ _ _ _ (ne_eqb _ _ if1.false)))
-    (stops c.in_default-none.is (c.write_run-none.ensures.ran e names.no_centre lists)))
+returns-in_err-none c =
+    let first = c.in_ok-cell.cell.last in
+    rw (carried c.from_residual-in_err-none.ensures) (λ e. on (c.in_ok-cell.ensures.ran e names.cell behind)
+    (on (c.in_ok-flag.ensures.ran e names.last (λ _. middle first))
+    (starts (when_no _ _ _ _ _ _ (ne_eqb _ _ c.if-cell-eq1.false)) (stops (c.in_err-none.ensures.ran e names.no_centre lists)))))
 
-pub write_lists-requires-2 : goal.write_lists-requires-2
-unfolding run sign_of width_of
-write_lists-requires-2 c =
-    let if1 = c.if-first-eq1 in
-    let pre = c.requires in
-    let write-run = c.write_run-cell in
-    let write-run2 = c.write_run-flag in
-    let write-run3 = c.write_run-none in record {
-      placed = placed_on pre
-          (go_on
-          (go_on (done c.in-Done.is (write-run.ensures.ran (outside edition_1) names.cell (λ v. u "last_occurrence" 1 (middle v))))
-          (done c.in-Done-flag.is (write-run2.ensures.ran (outside edition_1) names.last ((λ _. middle c.in-Done.first)))))
-          (done c.in-Done-none.is
-          ((starts (when_no _ _ _ _ _ _ (ne_eqb _ _ if1.false))) (write-run3.ensures.ran (outside edition_1) names.no_centre lists))));
-      count_bound = omega (arith, last_of_lem last_of c.in-Done-none.is write-run3.ensures.result_bound);
-    }
+pub write_lists-requires-2-clause-count_bound : goal.write_lists-requires-2-clause-count_bound
+unfolding width_of
+write_lists-requires-2-clause-count_bound c = omega (arith, c.in_ok-none.ensures.result_bound)
 
 pub returns : goal.returns
 unfolding fragment run sign_of width_of
 returns c =
-    λ e. let if1 = c.if-first-eq1 in
-    let write-run = c.write_run-cell in
-    let write-run2 = c.write_run-flag in
-    let write-run3 = c.write_run-none in
-    then
-    (go_on
-    (go_on (done c.in-Done.is (write-run.ensures.ran e names.cell (λ v. u "last_occurrence" 1 (middle v))))
-    (done c.in-Done-flag.is (write-run2.ensures.ran e names.last ((λ _. middle c.in-Done.first)))))
-    (done c.in-Done-none.is
-    ((starts (when_no _ _ _ _ _ _ (ne_eqb _ _ if1.false))) (write-run3.ensures.ran e names.no_centre lists))))
-    (c.write_lists-2.ensures e)
+    let first = c.in_ok-cell.cell.last in
+    λ e. on (c.in_ok-cell.ensures.ran e names.cell behind)
+    (on (c.in_ok-flag.ensures.ran e names.last (λ _. middle first))
+    (starts (when_no _ _ _ _ _ _ (ne_eqb _ _ c.if-cell-eq1.false))
+    (on (c.in_ok-none.ensures.ran e names.no_centre lists) (c.write_lists-2.ensures e))))

@@ -1,8 +1,22 @@
--- `write_answer`: what the ledger's size gives.
+-- `write_answer`: the refusal in the ledger's size, or what the size gives.
 -- Assumes nothing.
-use Rattle.format.specs.Syntax.{edition_1}
-use Rattle.ledger.proofs.ByLength.{write_answers}
+use Rattle.std.proofs.Common.{rules, sym, ◌∙◌}
+use Rattle.format.specs.Calls.{write_answer, filed}
+use Rattle.ledger_writer.specs.Written.{size_answer}
+use Rattle.ledger.proofs.ByLength.{size_no, size_yes}
 use Rattle.ledger.proofs.answers.write_answer.Goals as goal
 
+pub returns-in_err-size : goal.returns-in_err-size
+unfolding write_answer size_answer
+returns-in_err-size c =
+    let a = c.args in
+    let p = filed a.edition a.table_id a.body.now in
+    let no = size_no a.table_id a.room p (sym c.in_err-size.was ∙ c.ledger_size.ensures) in
+    search (no, rules)
+
 pub returns : goal.returns
-returns c = write_answers edition_1 _ c.ledger_size-size.ensures c.size_answer.ensures
+unfolding write_answer size_answer
+returns c =
+    let a = c.args in
+    let p = filed a.edition a.table_id a.body.now in
+    size_yes a.table_id a.room p (sym c.in_ok-size.was ∙ c.ledger_size.ensures) c.fitted.ensures

@@ -1,6 +1,0 @@
--- `main` ends: the turns are counted down.
--- Assumes nothing.
-use Rattle.ledger_replay.proofs.main.Given as goal
-
-abbrev pub decreases-loop-turns : goal.decreases-loop-turns
-decreases-loop-turns l = l.turns
