@@ -93,8 +93,8 @@ pub fn entry_ids(table_id: u8, body: &[u8], out: &mut [u32]) -> Result<Output, R
     ensures { (result ≡ ids_answer table_id body.now (length out.old)) × (out.new ≡ ids_left table_id body.now out.old) }
 {
     let ids = gather_ids(table_id, body)?;
-    let output = fitted(table_id, ids.len(), out.len())?;
     let count = ids.len();
+    let output = fitted(table_id, count, out.len())?;
     out[..count].copy_from_slice(&ids);
     Ok(output)
 }

@@ -20,7 +20,7 @@ returns-in_err-output c =
     let a = c.args in
     let g = c.gather_ids.ensures in
     let m = c.in_ok-ids.was in
-    let e = sym c.in_err-output.was ∙ answer_yes a.table_id a.body.now g m c.len.ensures.value c.fitted.ensures in
+    let e = sym c.in_err-output.was ∙ answer_yes a.table_id a.body.now g m c.len-count.ensures.value c.fitted.ensures in
     rw (carried c.from_residual-in_err-output.ensures) (e, left_short a.table_id a.body.now g a.out.now m e)
 
 pub slice_bounds-copy_from_slice-end : goal.slice_bounds-copy_from_slice-end
@@ -29,15 +29,16 @@ slice_bounds-copy_from_slice-end c =
     let g = c.gather_ids.ensures in
     let m = c.in_ok-ids.was in
     room_for a.table_id a.body.now g a.out.now m c.len-count.ensures.value
-    (sym c.in_ok-output.was ∙ answer_yes a.table_id a.body.now g m c.len.ensures.value c.fitted.ensures)
+    (sym c.in_ok-output.was ∙ answer_yes a.table_id a.body.now g m c.len-count.ensures.value c.fitted.ensures)
 
 pub slice_bounds-copy_from_slice-end-2 : goal.slice_bounds-copy_from_slice-end-2
 slice_bounds-copy_from_slice-end-2 c =
     let a = c.args in
     let g = c.gather_ids.ensures in
     let m = c.in_ok-ids.was in
-    let e = sym c.in_ok-output.was ∙ answer_yes a.table_id a.body.now g m c.len.ensures.value c.fitted.ensures in
-    sym (length-take-le _ a.out.now (room_for a.table_id a.body.now g a.out.now m c.len-count.ensures.value e))
+    let s = c.len-count.ensures.value in
+    let e = sym c.in_ok-output.was ∙ answer_yes a.table_id a.body.now g m s c.fitted.ensures in
+    sym (length-take-le _ a.out.now (room_for a.table_id a.body.now g a.out.now m s e))
 
 pub copy_from_slice-requires : goal.copy_from_slice-requires
 copy_from_slice-requires c =
@@ -45,7 +46,7 @@ copy_from_slice-requires c =
     let g = c.gather_ids.ensures in
     let m = c.in_ok-ids.was in
     let s = c.len-count.ensures.value in
-    let e = sym c.in_ok-output.was ∙ answer_yes a.table_id a.body.now g m c.len.ensures.value c.fitted.ensures in
+    let e = sym c.in_ok-output.was ∙ answer_yes a.table_id a.body.now g m s c.fitted.ensures in
     let r = room_for a.table_id a.body.now g a.out.now m s e in
     length-take-le _ a.out.now r ∙ s ∙ ap length (sym c.deref.ensures.0)
 
@@ -55,6 +56,6 @@ returns c =
     let g = c.gather_ids.ensures in
     let m = c.in_ok-ids.was in
     let s = c.len-count.ensures.value in
-    let e = sym c.in_ok-output.was ∙ answer_yes a.table_id a.body.now g m c.len.ensures.value c.fitted.ensures in
+    let e = sym c.in_ok-output.was ∙ answer_yes a.table_id a.body.now g m s c.fitted.ensures in
     let r = room_for a.table_id a.body.now g a.out.now m s e in
     (e, left_yes a.table_id a.body.now g a.out.now m s r (c.copy_from_slice.ensures.after ∙ c.deref.ensures.0))
