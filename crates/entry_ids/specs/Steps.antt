@@ -35,3 +35,8 @@ GatheredIn p (Err f) = p ≡ refused f.fault f.need f.have
 
 pub record Gathered (p : Parse (List ℕ)) (r : Result (ArrayVec ℕ) Refusal) : Type 0 where
   pub is : GatheredIn p r
+
+-- of a call that gathers into a list: the list, or the refusal
+abbrev pub gathered : ArrayVec ℕ → Result (Unit {0}) Refusal → Result (ArrayVec ℕ) Refusal
+gathered ids (Ok u) = Ok ids
+gathered ids (Err f) = Err f

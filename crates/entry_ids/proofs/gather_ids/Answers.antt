@@ -31,7 +31,7 @@ returns-then-table_id-eq2 c =
       | then-table_id-eq2-via-else-table_id-eq2+then-table_id-gt4 w ↦ λ h.
           absurd (omega (arith, w.if-table_id-gt4.true))
     ] in
-    gathered_none a.table_id a.s.now 0 n (sym c.in_ok-walk_body.was ∙ c.walk_body.ensures.value) c.new.ensures
+    gathered_none a.table_id a.s.now 0 n (sym c.in_ok-walk_body.was ∙ c.walk_body.ensures.value) c.requires
 
 pub returns-in_err-start : goal.returns-in_err-start
 returns-in_err-start c =

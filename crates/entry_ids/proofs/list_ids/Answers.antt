@@ -10,7 +10,7 @@ pub loop-at-init : goal.loop-at-init
 loop-at-init c =
     let a = c.args in
     let b = c.requires.s_len_bound in
-    kept_first a.table_id a.s.now a.start c.new-ids.result.items b.1 b.2 c.new-ids.ensures
+    kept_first a.table_id a.s.now a.start a.ids.now.items b.1 b.2 c.requires.empty
 
 pub returns-in_err-next : goal.returns-in_err-next
 returns-in_err-next c =
