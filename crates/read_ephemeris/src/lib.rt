@@ -6,7 +6,7 @@ ghost use Rattle.format.specs.declared.Fault.{Fault};
 ghost use Rattle.format.specs.Syntax.{Name, Syntax, end};
 ghost use Rattle.format.specs.Tables.{times, header, usable, metadata, ephemeris, covariance, ephemerides, position3};
 ghost use Rattle.read_runs.specs.Came.{Way, LedgerPlaced, Laid};
-ghost use Rattle.read_ephemeris.specs.Flagged.{flagged};
+ghost use Rattle.runs.specs.Flagged.{flagged};
 
 use format::Refusal;
 use read_runs::{byte_of, read_run};

@@ -5,7 +5,8 @@ ghost use Rattle.std.specs.Prelude.{ℕ};
 ghost use Rattle.format.specs.Syntax.{Name, Syntax, end};
 ghost use Rattle.format.specs.Tables.{times, header, usable, metadata, ephemeris, ephemerides, position3};
 ghost use Rattle.write_runs.specs.Went.{Around, Placed, Ran, Reached};
-ghost use Rattle.write_ephemeris.specs.Rest.{flagged, ephemeris_to};
+ghost use Rattle.runs.specs.Flagged.{flagged};
+ghost use Rattle.write_ephemeris.specs.Rest.{ephemeris_to};
 
 use format::{Fault, Refusal};
 use runs::{Flags, Step, marks};

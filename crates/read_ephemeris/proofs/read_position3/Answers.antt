@@ -11,7 +11,7 @@ use Rattle.read_runs.specs.Came.{some_way}
 use Rattle.read_runs.proofs.CameLaws.{stops, then}
 use Rattle.read_runs.proofs.Runs.{placed_on}
 use Rattle.read_runs.proofs.Moved.{run_moved}
-use Rattle.read_ephemeris.specs.Flagged.{flagged}
+use Rattle.runs.specs.Flagged.{flagged}
 use Rattle.runs.proofs.Names as names
 use Rattle.read_ephemeris.proofs.read_position3.Goals as goal
 

@@ -7,7 +7,7 @@ use Rattle.runs.specs.Lines.{run, sign_of, width_of}
 use Rattle.runs.proofs.Names as names
 use Rattle.format.proofs.Passed.{carried}
 use Rattle.write_runs.proofs.WentLaws.{stops, on}
-use Rattle.write_ephemeris.specs.Rest.{flagged}
+use Rattle.runs.specs.Flagged.{flagged}
 use Rattle.write_ephemeris.proofs.write_position3.Goals as goal
 
 -- what follows each flag, with those in front of it
