@@ -6,7 +6,7 @@ ghost use Rattle.bits.specs.Read.{Room};
 ghost use Rattle.association.specs.Association.{association_type_of, type_number, leap_at, reserved_at, association_at};
 
 use bit_reader::enough;
-use bits::value_at;
+use bits::{Cursor, value_at};
 use clocks::clock_within;
 use format::{Fault, Found, Refusal};
 
@@ -97,7 +97,7 @@ fn leap_info_of(s: &[u8], kind: u64) -> Option<LeapInfo>
     })
 }
 
-// The reserved bits, which the other types have in their place.
+// The reserved bits, which the other types have in their place; by the number too.
 fn reserved_of(s: &[u8], kind: u64) -> u8
     requires { Room s.now 0 152 }
     ensures { result ≡ reserved_at s.now kind }
@@ -113,7 +113,7 @@ fn association_of(s: &[u8]) -> Result<Found<TimeAssociationBody>, Refusal>
     requires { Room s.now 0 152 }
     ensures { result ≡ association_at s.now }
 {
-    let ncr = clock_within(s, 8)?;
+    let ncr = clock_within(Cursor { body: s, at: 8 })?;
     let kind = value_at(s, 0, 4);
     Ok(Found {
         value: TimeAssociationBody {
@@ -136,7 +136,8 @@ pub fn read_association(s: &[u8]) -> Result<Found<TimeAssociationBody>, Refusal>
     requires { length s.now ≤ 4096 }
     ensures { result ≡ association_at s.now }
 {
-    enough(s, 0, Fault::BodyEmpty, 1)?;
-    enough(s, 0, Fault::AssociationCut, 152)?;
+    let from = Cursor::start(s);
+    enough(from, Fault::BodyEmpty, 1)?;
+    enough(from, Fault::AssociationCut, 152)?;
     association_of(s)
 }

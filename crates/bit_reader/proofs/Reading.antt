@@ -58,7 +58,7 @@ at_place {b} {k} {q} {at} m n l = rw (n, m, zero-add at) l
 -- ---- the test that a group is there, passed or not
 
 module _ {r : Result (Unit {0}) Refusal} (b : List ℕ) (p w : ℕ) (a : Fault) (e : r ≡ enough_at b p a w) where
-  had : {t : Unit {0}} → r ≡ Ok t → w ≤ 8 * length b - p
+  pub had : {t : Unit {0}} → r ≡ Ok t → w ≤ 8 * length b - p
   unfolding enough_at
   had {t} m = go (leb w (8 * length b - p)) refl (sym m ∙ e)
     where
@@ -67,7 +67,7 @@ module _ {r : Result (Unit {0}) Refusal} (b : List ℕ) (p w : ℕ) (a : Fault) 
       go true h q = leb-true _ _ h
       go false h q = cc
 
-  lacked : {f : Refusal} → r ≡ Err f → (8 * length b - p < w) × (f ≡ refuse a w (8 * length b - p))
+  pub lacked : {f : Refusal} → r ≡ Err f → (8 * length b - p < w) × (f ≡ refuse a w (8 * length b - p))
   unfolding enough_at
   lacked {f} m = go (leb w (8 * length b - p)) refl (sym m ∙ e)
     where

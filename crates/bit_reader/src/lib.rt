@@ -1,11 +1,13 @@
 // A reader that keeps its place in a lent body; each method is over the function of crate `bits` that takes the place
-// by value. And the test that a group of bits is there, which readers make before they take its fields.
+// by value. It may be made of any bytes, so that what reads asks for its place. And the test that a group of bits is
+// there, which readers make before they take its fields.
 #![tactic(auto)]
 
 ghost use Rattle.std.specs.Prelude.{◌≡◌, ◌+◌, ◌-◌, ◌*◌, ◌≤◌, length};
 ghost use Rattle.bits.specs.Read.{Place, Room};
 ghost use Rattle.bit_reader.specs.Readers.{start_of, moved, reads, reads_signed, value_alone, place_after, enough_at};
 
+use bits::Cursor;
 use format::{Fault, Refusal};
 
 #[derive(Drop)]
@@ -45,7 +47,11 @@ impl<'a> BitReader<'a> {
         ensures answer { result ≡ value_alone (reads self.old bits) }
         ensures place { self.new ≡ moved self.old (place_after (reads self.old bits) self.old.bit_pos) }
     {
-        let found = bits::read_u(self.data, self.bit_pos, bits)?;
+        let from = Cursor {
+            body: self.data,
+            at: self.bit_pos,
+        };
+        let found = bits::read_u(from, bits)?;
         self.bit_pos = found.next;
         Ok(found.value)
     }
@@ -57,7 +63,11 @@ impl<'a> BitReader<'a> {
         ensures answer { result ≡ value_alone (reads_signed self.old bits) }
         ensures place { self.new ≡ moved self.old (place_after (reads_signed self.old bits) self.old.bit_pos) }
     {
-        let found = bits::read_i(self.data, self.bit_pos, bits)?;
+        let from = Cursor {
+            body: self.data,
+            at: self.bit_pos,
+        };
+        let found = bits::read_i(from, bits)?;
         self.bit_pos = found.next;
         Ok(found.value)
     }
@@ -65,11 +75,10 @@ impl<'a> BitReader<'a> {
 
 // Tests that so many bits are there from a place on: refused with a fault of the caller's where they pass the end.
 #[tactic(auto, unfolding(crate::specs::Readers::enough_at))]
-pub fn enough(s: &[u8], at: u16, fault: Fault, bits: usize) -> Result<(), Refusal>
-    requires { Place s.now at }
-    ensures { result ≡ enough_at s.now at fault bits }
+pub fn enough(from: Cursor<'_>, fault: Fault, bits: usize) -> Result<(), Refusal>
+    ensures { result ≡ enough_at from.entry.body.now from.entry.at fault bits }
 {
-    let have = bits::remaining_bits(s, at);
+    let have = bits::remaining_bits(from.body, from.at);
     if have < bits {
         return Err(Refusal {
             fault,

@@ -141,7 +141,7 @@ pub record Told (b : List ℕ) (p : ℕ) (x : Found Clock) : Type 0 where
 
 -- no clock is both read and refused
 not_both : {P : Type 0} {x : Found Clock} {f : Refusal} → ◌≡◌ {A = Result (Found Clock) Refusal} (Ok x) (Err f) → P
-not_both e = let z : ◌≡◌ {A = ℕ} 0 1 = cc in absurd (omega arith)
+not_both e = absurd cc
 
 pub told : (b : List ℕ) (p : ℕ) {x : Found Clock} {r : Result (Found Clock) Refusal} → Place b p → r ≡ clock_at b p
     → r ≡ Ok x → Told b p x

@@ -2,12 +2,12 @@
 #![tactic(auto)]
 
 ghost use Rattle.std.specs.Prelude.{◌≡◌};
-ghost use Rattle.bits.specs.Read.{Place, Room};
+ghost use Rattle.bits.specs.Read.{Room};
 ghost use Rattle.clocks.specs.Clocks.{clock_at, clock_of, stamp_of};
 ghost use Rattle.clocks.specs.Inner.{fields_at, tested};
 
 use bit_reader::BitReader;
-use bits::value_at;
+use bits::Cursor;
 use format::{Fault, Found, Refusal};
 
 #[derive(Clone, Copy)]
@@ -26,12 +26,11 @@ pub struct Stamp {
 }
 
 // Reads a clock's fields by a reader of its own; refused with number 1 at the first that goes on behind the end.
-fn take_clock(s: &[u8], at: u16) -> Result<Found<Clock>, Refusal>
-    requires { Place s.now at }
-    ensures { result ≡ fields_at s.now at }
+fn take_clock(from: Cursor<'_>) -> Result<Found<Clock>, Refusal>
+    ensures { result ≡ fields_at from.entry.body.now from.entry.at }
 {
-    let mut reader = BitReader::new(s);
-    reader.skip(at);
+    let mut reader = BitReader::new(from.body);
+    reader.skip(from.at);
     let base = reader.read_u(33)?;
     let reserved = reader.read_u(6)?;
     let ext = reader.read_u(9)?;
@@ -61,46 +60,45 @@ fn checked(found: Found<Clock>) -> Result<Found<Clock>, Refusal>
 }
 
 // Reads a clock: refused where it is cut short, or by its extension.
-pub fn read_clock(s: &[u8], at: u16) -> Result<Found<Clock>, Refusal>
-    requires { Place s.now at }
-    ensures { result ≡ clock_at s.now at }
+pub fn read_clock(from: Cursor<'_>) -> Result<Found<Clock>, Refusal>
+    ensures { result ≡ clock_at from.entry.body.now from.entry.at }
 {
-    let found = take_clock(s, at)?;
+    let found = take_clock(from)?;
     checked(found)
 }
 
 // The fields of a clock at a place where all of it is there.
-fn clock_at(s: &[u8], at: u16) -> Clock
-    requires { Room s.now at 48 }
-    ensures { result ≡ clock_of s.now at }
+fn clock_at(from: Cursor<'_>) -> Clock
+    requires { Room from.body.now from.at 48 }
+    ensures { result ≡ clock_of from.entry.body.now from.entry.at }
 {
     Clock {
-        base: value_at(s, at, 33),
-        reserved: value_at(s, at + 33, 6) as u8,
-        ext: value_at(s, at + 39, 9) as u16,
+        base: from.value(0, 33),
+        reserved: from.value(33, 6) as u8,
+        ext: from.value(39, 9) as u16,
     }
 }
 
 // Reads a clock of a group whose bits were found to be there; refused by its extension alone.
-pub fn clock_within(s: &[u8], at: u16) -> Result<Found<Clock>, Refusal>
-    requires { Room s.now at 48 }
-    ensures { result ≡ clock_at s.now at }
+pub fn clock_within(from: Cursor<'_>) -> Result<Found<Clock>, Refusal>
+    requires { Room from.body.now from.at 48 }
+    ensures { result ≡ clock_at from.entry.body.now from.entry.at }
 {
     checked(Found {
-        value: clock_at(s, at),
-        next: at + 48,
+        value: clock_at(from),
+        next: from.at + 48,
     })
 }
 
 // The stamp at a place where all of it is there.
-pub fn stamp_at(s: &[u8], at: u16) -> Stamp
-    requires { Room s.now at 56 }
-    ensures { result ≡ stamp_of s.now at }
+pub fn stamp_at(from: Cursor<'_>) -> Stamp
+    requires { Room from.body.now from.at 56 }
+    ensures { result ≡ stamp_of from.entry.body.now from.entry.at }
 {
     Stamp {
-        year: value_at(s, at, 8) as u8,
-        reserved: value_at(s, at + 8, 7) as u8,
-        day: value_at(s, at + 15, 9) as u16,
-        fraction: value_at(s, at + 24, 32) as u32,
+        year: from.value(0, 8) as u8,
+        reserved: from.value(8, 7) as u8,
+        day: from.value(15, 9) as u16,
+        fraction: from.value(24, 32) as u32,
     }
 }

@@ -3,6 +3,7 @@
 use Prim.Native.Nat.{ℕ, zero, suc, ◌*◌, ◌-◌, ◌%◌, ◌≤◌, ◌<◌}
 use mathlib.Core.Path.{◌≡◌, refl, sym, ap, ◌∙◌}
 use mathlib.Core.List.{List, [], ◌∷◌}
+use mathlib.Core.Logic.{◌⊎◌, inl, inr}
 use native.Mathlib.Omega.{arith}
 use lib.ListN.{length, drop}
 use borrow.Author.Tests.{le-leb, lt-leb}
@@ -20,7 +21,10 @@ use Rattle.format.proofs.FineTables.{fine_header, least_header}
 use Rattle.format.proofs.DigitLaws.{length_bits}
 use Rattle.format.proofs.ReadLaws.{rest_at}
 use Rattle.format.proofs.WalkLaws.{read_on, read_no}
-use Rattle.entries.specs.Entries.{IsList, entry_syntax, least_bits, head_in, head_syntax, head_end}
+use Rattle.format.specs.Lists.{IsList, list_id, entry_syntax, least_bits, head_in, head_syntax}
+use Rattle.entries.specs.Entries.{list_starts, head_end}
+use Rattle.format.specs.declared.tables.ListTable.{ListTable}
+use Rattle.format.specs.declared.tables.ListTable.TheVariants.{PositionV2, CellFragment, BeamhoppingTimePlan, PositionV3}
 
 -- ---- what stands before the entries
 
@@ -56,28 +60,25 @@ module _ (b : List ℕ) where
       let t = read_on 64 header fine_header least_header (omega arith) b 0 q (omega arith) refl e in
       record { within = t.within; byte = t.byte; hs = t.ts; reads = t.reads; starts = rw (t.reads, rest_at b q) }
 
-  pub headed : (id q : ℕ) → IsList (layout id) → end_of b (head_syntax id) 0 ≡ Ok q → Headed id b q
+  pub headed : (t : ListTable) (q : ℕ) → end_of b (head_syntax (list_id t)) 0 ≡ Ok q → Headed (list_id t) b q
   unfolding starts_as read_body
-  headed zero q l e = headed_none 0 32 position q refl refl refl refl e
-  headed (suc zero) q l e = headed_none 1 34 fragment q refl refl refl refl e
-  headed (suc (suc zero)) q l e = absurd l
-  headed (suc (suc (suc zero))) q l e = headed_none 3 48 beamhopping q refl refl refl refl e
-  headed (suc (suc (suc (suc zero)))) q l e = headed_some q e
-  headed (suc (suc (suc (suc (suc i))))) q l e = absurd l
+  headed PositionV2 q e = headed_none 0 32 position q refl refl refl refl e
+  headed CellFragment q e = headed_none 1 34 fragment q refl refl refl refl e
+  headed BeamhoppingTimePlan q e = headed_none 3 48 beamhopping q refl refl refl refl e
+  headed PositionV3 q e = headed_some q e
 
   head_refused : (f : Refusal) → end_of b header 0 ≡ Err f → starts_as (layout 4) b ≡ refused f.fault f.need f.have
   unfolding starts_as
   head_refused f e = rw (read_no b header 0 f e)
 
   -- no other table has a head to refuse
-  pub unheaded : (id : ℕ) (f : Refusal) → IsList (layout id) → end_of b (head_syntax id) 0 ≡ Err f → starts_as (layout id) b ≡ refused f.fault f.need f.have
+  pub unheaded : (t : ListTable) (f : Refusal) → end_of b (head_syntax (list_id t)) 0 ≡ Err f
+      → starts_as (layout (list_id t)) b ≡ refused f.fault f.need f.have
   unfolding end_of read read_body
-  unheaded zero f l e = let o : ◌≡◌ {A = ℕ} 0 1 = cc in absurd (omega arith)
-  unheaded (suc zero) f l e = let o : ◌≡◌ {A = ℕ} 0 1 = cc in absurd (omega arith)
-  unheaded (suc (suc zero)) f l e = absurd l
-  unheaded (suc (suc (suc zero))) f l e = let o : ◌≡◌ {A = ℕ} 0 1 = cc in absurd (omega arith)
-  unheaded (suc (suc (suc (suc zero)))) f l e = head_refused f e
-  unheaded (suc (suc (suc (suc (suc i))))) f l e = absurd l
+  unheaded PositionV2 f e = let o : ◌≡◌ {A = ℕ} 0 1 = cc in absurd (omega arith)
+  unheaded CellFragment f e = let o : ◌≡◌ {A = ℕ} 0 1 = cc in absurd (omega arith)
+  unheaded BeamhoppingTimePlan f e = let o : ◌≡◌ {A = ℕ} 0 1 = cc in absurd (omega arith)
+  unheaded PositionV3 f e = head_refused f e
 
 -- where a head was said to end, and where there is none
 pub head_ends : (id : ℕ) (b : List ℕ) (q : ℕ) → end_of b (head_syntax id) 0 ≡ Ok q → head_end id b ≡ q
@@ -97,20 +98,18 @@ no_head_end id b h = go (layout id) h
     go (many x m s) h = absurd (h tt)
     go opaque h = omega (arith, length_bits b)
 
-pub no_header : (b : List ℕ) (id : ℕ) → IsList (layout id) → (id ≡ 4 → ⊥) → Ok 0 ≡ end_of b (head_syntax id) 0
+pub no_header : (b : List ℕ) (t : ListTable) → (t ≡ PositionV2) ⊎ ((t ≡ CellFragment) ⊎ (t ≡ BeamhoppingTimePlan))
+    → Ok 0 ≡ end_of b (head_syntax (list_id t)) 0
 unfolding end_of read read_body
-no_header b id l h = go id l h
+no_header b t h = go h
   where
     z : 0 ≡ 8 * length b - length (bits_of b)
     z = omega (arith, length_bits b)
 
-    go : (i : ℕ) → IsList (layout i) → (i ≡ 4 → ⊥) → Ok 0 ≡ end_of b (head_syntax i) 0
-    go zero l h = ap Ok z
-    go (suc zero) l h = ap Ok z
-    go (suc (suc zero)) l h = absurd l
-    go (suc (suc (suc zero))) l h = ap Ok z
-    go (suc (suc (suc (suc zero)))) l h = absurd (h refl)
-    go (suc (suc (suc (suc (suc i))))) l h = absurd l
+    go : (t ≡ PositionV2) ⊎ ((t ≡ CellFragment) ⊎ (t ≡ BeamhoppingTimePlan)) → Ok 0 ≡ end_of b (head_syntax (list_id t)) 0
+    go (inl e) = rw e (ap Ok z)
+    go (inr (inl e)) = rw e (ap Ok z)
+    go (inr (inr e)) = rw e (ap Ok z)
 
 -- ---- what is made of a body's places
 
@@ -134,14 +133,16 @@ module _ {A : Type 0} (i : ℕ) (found : ℕ → Option ℕ → ℕ → A) (fail
   unfolding body_starts
   under id h = rw (le-leb (length b) 4096 h)
 
-  pub seek_list : {x : A} (id q : ℕ) → length b ≤ 4096 → IsList (layout id) → end_of b (head_syntax id) 0 ≡ Ok q
-      → x ≡ seek b i found fail (starts (8 * length b) (least_bits id) (entry_syntax id) (8 * length b - q) (drop q (bits_of b))) → x ≡ seek b i found fail (body_starts id b)
-  seek_list id q h l e w = rw (under id h, (headed b id q l e).starts) w
+  pub seek_list : {x : A} (t : ListTable) (q : ℕ) → length b ≤ 4096 → end_of b (head_syntax (list_id t)) 0 ≡ Ok q
+      → x ≡ seek b i found fail (list_starts t b q)
+      → x ≡ seek b i found fail (body_starts (list_id t) b)
+  seek_list t q h e w = rw (under (list_id t) h, (headed b t q e).starts) w
 
-  pub seek_unheaded : {f : Refusal} {r : Result ℕ Refusal} (id : ℕ) → length b ≤ 4096 → IsList (layout id) → r ≡ end_of b (head_syntax id) 0 → r ≡ Err f
-      → fail f ≡ seek b i found fail (body_starts id b)
+  pub seek_unheaded : {f : Refusal} {r : Result ℕ Refusal} (t : ListTable) → length b ≤ 4096
+      → r ≡ end_of b (head_syntax (list_id t)) 0 → r ≡ Err f
+      → fail f ≡ seek b i found fail (body_starts (list_id t) b)
   unfolding seek
-  seek_unheaded {f} id h l e m = rw (under id h, unheaded b id f l (sym e ∙ m))
+  seek_unheaded {f} t h e m = rw (under (list_id t) h, unheaded b t f (sym e ∙ m))
 
   -- id 2: read or refused; ids from 5 on: one entry, that ends with the body
   at_first : (j : ℕ) → found 1 (sole_place j) (8 * length b) ≡ found 1 (slice_get (0 ∷ []) j) (8 * length b - 0)

@@ -1,43 +1,21 @@
--- What a table's layout says of its entries, and what is made of an answer.
+-- Where a table's entries start, and what is made of an answer.
 -- Assumes nothing: these are definitions.
-use Rattle.std.specs.Prelude.{ℕ, ◌≤◌, List, length, Option, Result, Ok, Err}
-use Rattle.format.specs.Syntax.{Syntax, end}
-use Rattle.format.specs.Whole.{Layout, sole, many, opaque, layout}
+use Rattle.std.specs.Prelude.{ℕ, ◌*◌, ◌-◌, ◌≤◌, List, length, drop, Option, Result, Ok, Err}
+use Rattle.format.specs.Digits.{bits_of}
+use Rattle.format.specs.Syntax.{Parse}
+use Rattle.format.specs.Whole.{starts}
+use Rattle.format.specs.Lists.{list_id, entry_syntax, least_bits, head_syntax}
 use Rattle.format.specs.At.{read, Starts}
 use Rattle.format.specs.declared.Refusal.{Refusal}
 use Rattle.format.specs.declared.Found.{Found}
+use Rattle.format.specs.declared.tables.ListTable.{ListTable}
 use Rattle.entries.specs.declared.Walk.{Walk}
 
--- a body that is a list of entries
-abbrev pub IsList : Layout → Type 0
-IsList (sole s) = ⊥
-IsList (many h m s) = Unit {0}
-IsList opaque = ⊥
-
-abbrev pub entry_in : Layout → Syntax
-entry_in (sole s) = s
-entry_in (many h m s) = s
-entry_in opaque = end
-
-abbrev pub least_in : Layout → ℕ
-least_in (sole s) = 0
-least_in (many h m s) = m
-least_in opaque = 0
-
-abbrev pub head_in : Layout → Syntax
-head_in (sole s) = end
-head_in (many h m s) = h
-head_in opaque = end
-
--- an entry, the bits that must remain for it, and what stands before the first
-abbrev pub entry_syntax : ℕ → Syntax
-entry_syntax id = entry_in (layout id)
-
-abbrev pub least_bits : ℕ → ℕ
-least_bits id = least_in (layout id)
-
-abbrev pub head_syntax : ℕ → Syntax
-head_syntax id = head_in (layout id)
+-- the places at which the entries of a list start, from a place of the body on
+abbrev pub list_starts : ListTable → List ℕ → ℕ → Parse (List ℕ)
+list_starts t b p =
+    let id : ℕ = list_id t in
+    starts (8 * length b) (least_bits id) (entry_syntax id) (8 * length b - p) (drop p (bits_of b))
 
 -- where the head ends and the entries start; 0 where the head is refused
 unfoldable pub head_end : ℕ → List ℕ → ℕ

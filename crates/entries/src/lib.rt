@@ -2,15 +2,15 @@
 // last one ends.
 #![tactic(auto)]
 
-ghost use Rattle.std.specs.Prelude.{◌≡◌, ℕ, ◌-◌, ◌*◌, ◌%◌, ◌≤◌, length, drop};
-ghost use Rattle.format.specs.Digits.{bits_of};
-ghost use Rattle.format.specs.Whole.{layout, starts, body_starts};
+ghost use Rattle.std.specs.Prelude.{◌≡◌, ◌%◌, ◌≤◌, length};
+ghost use Rattle.format.specs.Whole.{layout, body_starts};
 ghost use Rattle.format.specs.At.{end_of, seek};
-ghost use Rattle.bits.specs.Read.{Place};
-ghost use Rattle.entries.specs.Entries.{entry_syntax, least_bits, head_syntax, head_end, IsList, next_of, walked, Sure};
+ghost use Rattle.format.specs.Lists.{IsList, list_id, entry_syntax, head_syntax};
+ghost use Rattle.entries.specs.Entries.{head_end, list_starts, next_of, walked, Sure};
 
 use association::read_association;
-use format::{Fault, Found, Refusal};
+use bits::Cursor;
+use format::{Fault, Found, ListTable, Refusal};
 use fragment::read_fragment;
 use plan::read_plan;
 use position::read_satellite;
@@ -26,67 +26,51 @@ pub struct Walk {
 }
 
 // Of what was read, the place behind it.
+#[tactic(auto, unfolding(crate::specs::Entries::next_of))]
 fn next_of<T: Copy>(found: Result<Found<T>, Refusal>) -> Result<u16, Refusal>
     ensures { result ≡ next_of found }
 {
-    match found {
-        Ok(there) => Ok(there.next),
-        Err(refusal) => Err(refusal),
-    }
+    Ok(found?.next)
 }
 
-// Where the entry of a list at a place ends.
-pub fn entry_end(table_id: u8, s: &[u8], at: u16) -> Result<u16, Refusal>
-    requires place { Place s.now at × (at % 8 ≡ 0) }
-    requires list { IsList (layout table_id) }
-    ensures { result ≡ end_of s.now (entry_syntax table_id) at }
+// Where the entry of a list at a place ends, which starts a byte (`at_value`; see `Cursor`).
+pub fn entry_end(table: ListTable, from: Cursor<'_>) -> Result<u16, Refusal>
+    requires at_value { from.at % 8 ≡ 0 }
+    ensures { result ≡ end_of from.entry.body.now (entry_syntax (list_id table)) from.entry.at }
 {
-    match table_id {
-        0 => next_of(read_satellite(s, at)),
-        1 => next_of(read_fragment(s, at)),
-        3 => next_of(read_plan(s, at)),
-        _ => next_of(read_satellite_v3(s, at)),
-    }
-}
-
-// The bits that must remain for there to be an entry.
-pub fn least_bits(table_id: u8) -> usize
-    requires { IsList (layout table_id) }
-    ensures { result ≡ least_bits table_id }
-{
-    match table_id {
-        1 => 34,
-        3 => 48,
-        _ => 32,
+    match table {
+        ListTable::PositionV2 => next_of(read_satellite(from)),
+        ListTable::CellFragment => next_of(read_fragment(from)),
+        ListTable::BeamhoppingTimePlan => next_of(read_plan(from)),
+        ListTable::PositionV3 => next_of(read_satellite_v3(from)),
     }
 }
 
 // Where the entries of a list start: behind the header under id 4.
-pub fn head_end(table_id: u8, s: &[u8]) -> Result<u16, Refusal>
+pub fn head_end(table: ListTable, s: &[u8]) -> Result<u16, Refusal>
     requires s_len_bound { length s.now ≤ 4096 }
-    requires list { IsList (layout table_id) }
-    ensures { result ≡ end_of s.now (head_syntax table_id) 0 }
+    ensures { result ≡ end_of s.now (head_syntax (list_id table)) 0 }
 {
-    match table_id {
-        4 => next_of(read_header(s)),
-        _ => Ok(0),
+    match table {
+        ListTable::PositionV2 | ListTable::CellFragment | ListTable::BeamhoppingTimePlan => Ok(0),
+        ListTable::PositionV3 => next_of(read_header(s)),
     }
 }
 
-// The entries of a list from a place on. A `while`, since where an entry ends shows only once it is read.
-fn seek_entries(table_id: u8, s: &[u8], start: u16, index: usize) -> Result<Walk, Refusal>
-    requires s_len_bound { (length s.now ≤ 4096) × (start ≤ 8 * length s.now) × (start % 8 ≡ 0) }
-    requires list { IsList (layout table_id) }
-    ensures value { result ≡ seek s.now index walked Err (starts (8 * length s.now) (least_bits table_id) (entry_syntax table_id) (8 * length s.now - start) (drop start (bits_of s.now))) }
-    ensures sure { Sure s.now start result }
+// The entries of a list from a place on. A `while`, since where an entry ends shows only once it is read; an iterator
+// would keep the same place.
+fn seek_entries(table: ListTable, from: Cursor<'_>, index: usize) -> Result<Walk, Refusal>
+    requires at_value { from.at % 8 ≡ 0 }
+    ensures value { result ≡ seek from.entry.body.now index walked Err (list_starts table from.entry.body.now from.entry.at) }
+    ensures sure { Sure from.entry.body.now from.entry.at result }
 {
-    let all = 8 * s.len();
-    let least = least_bits(table_id);
-    let mut at = start;
+    let all = 8 * from.body.len();
+    let least = table.least_bits();
+    let mut at = from.at;
     let mut count: usize = 0;
     let mut place = None;
     while least <= all - at as usize {
-        let next = entry_end(table_id, s, at)?;
+        let next = entry_end(table, from.to(at))?;
         if count == index {
             place = Some(at);
         }
@@ -100,7 +84,7 @@ fn seek_entries(table_id: u8, s: &[u8], start: u16, index: usize) -> Result<Walk
     })
 }
 
-// The one entry of a body that is no list.
+// The one entry of a body that is no list: of the time association, under id 2, or of a raw body, under any other.
 fn sole_entry(table_id: u8, s: &[u8], index: usize) -> Result<Walk, Refusal>
     requires s_len_bound { length s.now ≤ 4096 }
     requires no_list { IsList (layout table_id) → ⊥ }
@@ -130,9 +114,11 @@ pub fn walk_body(table_id: u8, s: &[u8], index: usize) -> Result<Walk, Refusal>
             have: 4096,
         });
     }
-    if table_id == 2 || 4 < table_id {
-        return sole_entry(table_id, s, index);
+    match ListTable::of(table_id) {
+        Some(table) => {
+            let at = head_end(table, s)?;
+            seek_entries(table, Cursor { body: s, at }, index)
+        }
+        None => sole_entry(table_id, s, index),
     }
-    let start = head_end(table_id, s)?;
-    seek_entries(table_id, s, start, index)
 }

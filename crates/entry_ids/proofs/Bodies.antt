@@ -2,7 +2,7 @@
 -- Assumes nothing.
 use mathlib.Core.Path.{◌≡◌, refl, sym, ap, ◌∙◌}
 use mathlib.Core.List.{List, [], ◌++◌}
-use Prim.Native.Nat.{ℕ, zero, suc, ◌*◌, ◌-◌, ◌≤◌}
+use Prim.Native.Nat.{ℕ, ◌*◌, ◌-◌, ◌≤◌}
 use native.Mathlib.Nat.{zero-add}
 use native.Mathlib.Omega.{arith}
 use lib.Dec.{leb}
@@ -12,7 +12,6 @@ use Rattle.std.specs.Prelude.{Result, Ok, Err}
 use Rattle.format.specs.Digits.{bits_of, splice}
 use Rattle.format.specs.Refusals.{refuse}
 use Rattle.format.specs.Syntax.{Field, Parse, got, refused, and_then}
-use Rattle.format.specs.Tables.{association}
 use Rattle.format.specs.Body.{read_body}
 use Rattle.format.specs.Whole.{Layout, sole, many, opaque, layout, Table, one, list, as_it_is, entries_of, entries, read_as, body_read_as, body_read, body_starts}
 use Rattle.format.specs.Calls.{answer, Fitted, left}
@@ -25,11 +24,14 @@ use Rattle.format.proofs.ParseLaws.{cond_got, then_got}
 use Rattle.format.proofs.ReadLaws.{rest_at}
 use Rattle.format.proofs.CallLaws.{answer_done, answer_refused}
 use Rattle.format.proofs.AgreeLaws.{Agree, counted, refuses, starts_agree}
-use Rattle.entries.specs.Entries.{IsList, entry_in, least_in, head_in, entry_syntax, least_bits, head_syntax, walked}
+use Rattle.format.specs.Lists.{IsList, list_id, entry_syntax, least_bits, head_syntax}
+use Rattle.entries.specs.Entries.{walked}
+use Rattle.format.specs.declared.tables.ListTable.{ListTable}
 use Rattle.entries.specs.declared.Walk.{Walk}
+use Rattle.format.proofs.NamedLaws.{layout_list}
 use Rattle.entries.proofs.Bodies.{Headed, headed}
 use Rattle.entry_ids.specs.Ids.{ids_of, ids_answer, ids_left}
-use Rattle.entry_ids.specs.Steps.{gather, Gathered}
+use Rattle.entry_ids.specs.Steps.{gather, list_entries, Gathered}
 
 module _ (id : ℕ) (b : List ℕ) where
   abbrev n : ℕ
@@ -70,23 +72,20 @@ module _ (id : ℕ) (b : List ℕ) where
 
   -- ---- a body that is no list
 
-  no_entries : {t : Table} {r : List ℕ} → (id ≤ 4 → id ≡ 2) → body_read id b ≡ got t r → entries_of t ≡ []
+  no_entries : {t : Table} {r : List ℕ} → (IsList (layout id) → ⊥) → body_read id b ≡ got t r → entries_of t ≡ []
   unfolding body_read_as read_as entries_of
-  no_entries {t} {r} h e = go id h (cond_got (leb (length b) 4096) _ _ _ _ e).1
+  no_entries {t} {r} h e = go (layout id) h (cond_got (leb (length b) 4096) _ _ _ _ e).1
     where
-      go : (k : ℕ) → (k ≤ 4 → k ≡ 2) → read_as (layout k) b ≡ got t r → entries_of t ≡ []
-      go zero h e = absurd (let z = h (omega arith) in omega arith)
-      go (suc zero) h e = absurd (let z = h (omega arith) in omega arith)
-      go (suc (suc zero)) h e =
-          let o = then_got (read_body n 0 association (bits_of b)) (λ ts rest. got (one ts) []) e in
+      go : (y : Layout) → (IsList y → ⊥) → read_as y b ≡ got t r → entries_of t ≡ []
+      go (sole s) h e =
+          let o = then_got (read_body n 0 s (bits_of b)) (λ ts rest. got (one ts) []) e in
           let same : got (one o.0) [] ≡ got t r = o.3 in
           let z : one o.0 ≡ t = cc in
           ap entries_of (sym z)
-      go (suc (suc (suc zero))) h e = absurd (let z = h (omega arith) in omega arith)
-      go (suc (suc (suc (suc zero)))) h e = absurd (let z = h (omega arith) in omega arith)
-      go (suc (suc (suc (suc (suc k))))) h e = let z : as_it_is b ≡ t = cc in ap entries_of (sym z)
+      go (many x m s) h e = absurd (h tt)
+      go opaque h e = let z : as_it_is b ≡ t = cc in ap entries_of (sym z)
 
-  pub gathered_none : {w : Walk} {v : ArrayVec ℕ} (i : ℕ) → (id ≤ 4 → id ≡ 2)
+  pub gathered_none : {w : Walk} {v : ArrayVec ℕ} (i : ℕ) → (IsList (layout id) → ⊥)
       → Ok w ≡ seek b i walked Err (body_starts id b) → v.items ≡ []
       → Gathered (ids_of id b) (Ok v)
   unfolding ids_of entry_ids first_of_each
@@ -94,10 +93,15 @@ module _ (id : ℕ) (b : List ℕ) where
       let a = accepted_alike i z in
       record { is = rw (a.2, no_entries h a.2, e) }
 
-  -- ---- a list
+-- ---- a list
+
+module _ (table : ListTable) (b : List ℕ) where
+  abbrev id : ℕ
+  id = list_id table
 
   abbrev listed : List Field → ℕ → List ℕ → Parse Table
-  listed hs turns bs = and_then (entries n (least_bits id) (entry_syntax id) turns bs) (λ es over. got (list hs es) [])
+  listed hs turns bs =
+      and_then (entries (8 * length b) (least_bits id) (entry_syntax id) turns bs) (λ es over. got (list hs es) [])
 
   gather_listed : (hs : List Field) (p : Parse (List (List Field)))
       → and_then (and_then p (λ es over. got (list hs es) [])) (λ t rest. got (first_of_each (entry_ids id t)) [])
@@ -106,29 +110,19 @@ module _ (id : ℕ) (b : List ℕ) where
   gather_listed hs (got es rest) = refl
   gather_listed hs (refused x y z) = refl
 
--- a list's layout by its parts, and its reading where its head ends
-layout_list : (id : ℕ) → IsList (layout id) → layout id ≡ many (head_syntax id) (least_bits id) (entry_syntax id)
-layout_list id l = go (layout id) l
-  where
-    go : (y : Layout) → IsList y → y ≡ many (head_in y) (least_in y) (entry_in y)
-    go (sole s) l = absurd l
-    go (many h m s) l = refl
-    go opaque l = absurd l
+  -- its reading where its head ends
+  listed_from : (q : ℕ) (h : Headed id b q)
+      → read_as (layout id) b ≡ listed h.hs (8 * length b - q) (drop q (bits_of b))
+  unfolding read_as
+  listed_from q h = ap (λ (y : Layout). read_as y b) (layout_list table) ∙ rw (h.reads, rest_at b q)
 
-listed_from : (id : ℕ) (b : List ℕ) (q : ℕ) → IsList (layout id) → (h : Headed id b q)
-    → read_as (layout id) b ≡ listed id b h.hs (8 * length b - q) (drop q (bits_of b))
-unfolding read_as
-listed_from id b q l h = ap (λ (y : Layout). read_as y b) (layout_list id l) ∙ rw (h.reads, rest_at b q)
-
-pub gathered_list : {r : Result (ArrayVec ℕ) Refusal} (id : ℕ) (b : List ℕ) (q : ℕ) → length b ≤ 4096
-    → IsList (layout id) → end_of b (head_syntax id) 0 ≡ Ok q
-    → Gathered
-    (gather id [] (entries (8 * length b) (least_bits id) (entry_syntax id) (8 * length b - q) (drop q (bits_of b)))) r
-    → Gathered (ids_of id b) r
-unfolding ids_of body_read_as
-gathered_list id b q h l e g =
-    let o = headed b id q l e in
-    rw (le-leb (length b) 4096 h, listed_from id b q l o, gather_listed id b o.hs) g
+  pub gathered_list : {r : Result (ArrayVec ℕ) Refusal} (q : ℕ) → length b ≤ 4096 → end_of b (head_syntax id) 0 ≡ Ok q
+      → Gathered (gather id [] (list_entries table b q)) r
+      → Gathered (ids_of id b) r
+  unfolding ids_of body_read_as
+  gathered_list q h e g =
+      let o = headed b table q e in
+      rw (le-leb (length b) 4096 h, listed_from q o, gather_listed o.hs) g
 
 -- ---- what a caller gets, of the ids that were gathered
 

@@ -22,9 +22,8 @@ use Rattle.format.proofs.TableLaws.{FineLayout, fine_layout, GoodTable, good_one
 use Rattle.format.proofs.Demand.{body_all, accepted_good}
 use Rattle.format.proofs.CallLaws.{accepts_result, result_given}
 use Rattle.format.proofs.IdLaws.{each_once, first_shorter, first_order}
-use Rattle.entries.specs.Entries.{IsList, least_in}
 use Rattle.entry_ids.specs.Ids.{ids_of, ids_answer, ids_left, Listed}
-use Rattle.entry_ids.proofs.Walks.{word_entry}
+use Rattle.entry_ids.proofs.Walks.{Wordy, wordy}
 
 -- ---- the calls
 
@@ -78,14 +77,14 @@ entries_few : (s : Syntax) (m : ℕ) (es : List (List Field)) → Good.Least m s
 entries_few s m [] l h g = omega arith
 entries_few s m (ts ∷ es) l h g = omega (arith, length_keeps ts es, Good.least m g.0 l, entries_few s m es l h g.1)
 
-table_few : {y : Layout} {t : Table} → FineLayout y → (IsList y → 32 ≤ least_in y) → GoodTable y t
+table_few : {y : Layout} {t : Table} → FineLayout y → Wordy y → GoodTable y t
     → 4 * length (entries_of t) ≤ length (kept_of t)
 unfolding entries_of body_of
 table_few x h (good_one g) = omega arith
 table_few x h (good_list {s} {m} {hs} {es} g gs) =
     let keeps : List ℕ = laids Second es in
     let p : List ℕ = kept hs ++ keeps in
-    omega (arith, length_bytes (length p / 8) p, length-append (kept hs) keeps, entries_few s m es x.2 (h tt) gs)
+    omega (arith, length_bytes (length p / 8) p, length-append (kept hs) keeps, entries_few s m es x.2 h gs)
 table_few x h (good_raw g) = omega arith
 
 -- there are at most a quarter as many ids as the body has bytes, and at most 1,024: so many are always enough
@@ -94,7 +93,7 @@ pub ids_few : {id : ℕ} {b : List ℕ} {t : Table} → Accepted id b t
 unfolding entry_ids
 ids_few {id} {b} {t} p =
     let g = accepted_good (fine_layout id) p in
-    let f = table_few (fine_layout id) (word_entry id) g.0 in
+    let f = table_few (fine_layout id) (wordy id) g.0 in
     let s = first_shorter (map (the (id_name id)) (entries_of t)) in
     let l = length-map (entries_of t) (the (id_name id)) in
     (omega (arith, f, s, l, g.1), omega (arith, f, s, l, g.1))

@@ -1,10 +1,15 @@
 -- What the parts of the call for the ids do.
 -- Assumes nothing: these are definitions.
-use Rattle.std.specs.Prelude.{ℕ, zero, suc, ◌≡◌, Bool, false, cond, ◌||◌, List, [], ◌∷◌, ◌++◌, map, eqb, Result, Ok, Err}
+use Rattle.std.specs.Prelude.{ℕ, zero, suc, ◌*◌, ◌-◌, ◌≡◌, Bool, false, cond, ◌||◌, List, [], ◌∷◌, ◌++◌, length, drop, map}
+use Rattle.std.specs.Prelude.{eqb, Result, Ok, Err}
+use Rattle.format.specs.Digits.{bits_of}
 use Rattle.format.specs.Syntax.{Field, Parse, got, refused, and_then}
+use Rattle.format.specs.Whole.{entries}
 use Rattle.format.specs.ByName.{the}
 use Rattle.format.specs.Added.{id_name, first_of_each}
 use Rattle.format.specs.declared.Refusal.{Refusal}
+use Rattle.format.specs.Lists.{list_id, entry_syntax, least_bits}
+use Rattle.format.specs.declared.tables.ListTable.{ListTable}
 use Rattle.arrayvec.specs.ArrayVec.{ArrayVec}
 
 -- the bits of an entry's id
@@ -27,6 +32,12 @@ join l x = cond (is_in x l) l (l ++ x ∷ [])
 -- the ids of entries that were read, behind those of the entries before them
 unfoldable pub gather : ℕ → List ℕ → Parse (List (List Field)) → Parse (List ℕ)
 gather id before p = and_then p (λ es rest. got (first_of_each (before ++ map (the (id_name id)) es)) [])
+
+-- the entries of a list from a place of the body on
+abbrev pub list_entries : ListTable → List ℕ → ℕ → Parse (List (List Field))
+list_entries t b p =
+    let id : ℕ = list_id t in
+    entries (8 * length b) (least_bits id) (entry_syntax id) (8 * length b - p) (drop p (bits_of b))
 
 -- what was gathered is what a reading gives: its ids, or its refusal
 abbrev pub GatheredIn : Parse (List ℕ) → Result (ArrayVec ℕ) Refusal → Type 0

@@ -1,19 +1,18 @@
 // The ids of a body's entries, each different one once, in the order of first entries.
 #![tactic(auto)]
 
-ghost use Rattle.std.specs.Prelude.{◌≡◌, [], ◌-◌, ◌*◌, ◌%◌, ◌≤◌, ◌<◌, length, drop};
+ghost use Rattle.std.specs.Prelude.{◌≡◌, [], ◌%◌, ◌<◌, length};
 ghost use Rattle.arrayvec.specs.ArrayVec.{array_vec_len};
-ghost use Rattle.format.specs.Digits.{bits_of, value_at};
-ghost use Rattle.format.specs.Whole.{layout, entries};
+ghost use Rattle.format.specs.Digits.{value_at};
 ghost use Rattle.bits.specs.Read.{Room};
-ghost use Rattle.entries.specs.Entries.{entry_syntax, least_bits, IsList};
+ghost use Rattle.format.specs.Lists.{list_id};
 ghost use Rattle.entry_ids.specs.Ids.{ids_of, ids_answer, ids_left};
-ghost use Rattle.entry_ids.specs.Steps.{id_bits, join, gather, Gathered, gathered};
+ghost use Rattle.entry_ids.specs.Steps.{id_bits, join, gather, list_entries, Gathered, gathered};
 
 use arrayvec::ArrayVec;
-use bits::value_at;
-use entries::{entry_end, head_end, least_bits, walk_body};
-use format::{Fault, Output, Refusal, fitted};
+use bits::Cursor;
+use entries::{entry_end, head_end, walk_body};
+use format::{Fault, ListTable, Output, Refusal, fitted};
 
 // The most entries that 4,096 bytes hold: an entry takes at least four.
 const ENTRIES_MAX: usize = 1024;
@@ -29,36 +28,35 @@ fn join(ids: &mut ArrayVec<u32, ENTRIES_MAX>, id: u32)
 }
 
 // The id of the entry at a place: its first field, 24 bits for satellites and 32 for the others.
-fn entry_id(table_id: u8, s: &[u8], at: u16) -> u32
-    requires room { Room s.now at 32 }
-    requires list { IsList (layout table_id) }
-    ensures { result ≡ value_at s.now at (id_bits table_id) }
+fn entry_id(table: ListTable, from: Cursor<'_>) -> u32
+    requires { Room from.body.now from.at 32 }
+    ensures { result ≡ value_at from.entry.body.now from.entry.at (id_bits (list_id table)) }
 {
-    match table_id {
-        1 | 3 => value_at(s, at, 32) as u32,
-        _ => value_at(s, at, 24) as u32,
+    match table {
+        ListTable::PositionV2 | ListTable::PositionV3 => from.value(0, 24) as u32,
+        ListTable::CellFragment | ListTable::BeamhoppingTimePlan => from.value(0, 32) as u32,
     }
 }
 
-// Gathers the different ids of a list's entries from a place on, in the order in which they are met. A `while`, since
-// where an entry ends shows only once it is read. The list is lent, since handing it back would copy it.
+// Gathers the different ids of a list's entries from a place on, which starts a byte (`at_value`; see `Cursor`), in the
+// order in which they are met. A `while`, since where an entry ends shows only once it is read. The list is lent, since
+// handing it back would copy it.
 fn list_ids(
-    table_id: u8,
-    s: &[u8],
-    start: u16,
+    table: ListTable,
+    from: Cursor<'_>,
     ids: &mut ArrayVec<u32, ENTRIES_MAX>,
 ) -> Result<(), Refusal>
-    requires s_len_bound { (length s.now ≤ 4096) × (start ≤ 8 * length s.now) × (start % 8 ≡ 0) }
-    requires list { IsList (layout table_id) }
+    requires at_value { from.at % 8 ≡ 0 }
     requires empty { ids.old.items ≡ [] }
-    ensures { Gathered (gather table_id [] (entries (8 * length s.now) (least_bits table_id) (entry_syntax table_id) (8 * length s.now - start) (drop start (bits_of s.now)))) (gathered ids.new result) }
+    ensures { Gathered (gather (list_id table) [] (list_entries table from.entry.body.now from.entry.at)) (gathered ids.new result) }
 {
-    let all = 8 * s.len();
-    let least = least_bits(table_id);
-    let mut at = start;
+    let all = 8 * from.body.len();
+    let least = table.least_bits();
+    let mut at = from.at;
     while least <= all - at as usize {
-        let next = entry_end(table_id, s, at)?;
-        let id = entry_id(table_id, s, at);
+        let entry = from.to(at);
+        let next = entry_end(table, entry)?;
+        let id = entry_id(table, entry);
         join(ids, id);
         at = next;
     }
@@ -77,12 +75,16 @@ fn gather_ids(table_id: u8, s: &[u8], ids: &mut ArrayVec<u32, ENTRIES_MAX>) -> R
             have: 4096,
         });
     }
-    if table_id == 2 || 4 < table_id {
-        walk_body(table_id, s, 0)?;
-        return Ok(());
+    match ListTable::of(table_id) {
+        Some(table) => {
+            let at = head_end(table, s)?;
+            list_ids(table, Cursor { body: s, at }, ids)
+        }
+        None => {
+            walk_body(table_id, s, 0)?;
+            Ok(())
+        }
     }
-    let start = head_end(table_id, s)?;
-    list_ids(table_id, s, start, ids)
 }
 
 // What the call below answers with a buffer of so many ids.

@@ -3,12 +3,12 @@
 
 ghost use Rattle.std.specs.Prelude.{◌≡◌};
 ghost use Rattle.std.specs.Int.{from_bool};
-ghost use Rattle.bits.specs.Read.{Place, Room};
+ghost use Rattle.bits.specs.Read.{Room};
 ghost use Rattle.ephemeris.specs.Entry.{Ahead, accel_of, entry_of, entry_width, ephemeris_data_at};
 ghost use Rattle.ephemeris.specs.Ephemeris.{ephemerides_at, covariance_of, covariance_at, words_at};
 
 use bit_reader::enough;
-use bits::{read_u, value_at};
+use bits::{Cursor, read_u};
 use clocks::stamp_at;
 use format::{Fault, Found, Refusal};
 use parts::Part;
@@ -53,16 +53,15 @@ fn entry_bits(accel: bool) -> usize
 
 // A count, and behind it so many ephemeris entries. Each is tested by itself: the first that is cut short has what is
 // left behind the whole ones.
-pub fn read_ephemerides(s: &[u8], at: u16, accel: bool) -> Result<Found<Part>, Refusal>
-    requires { Place s.now at }
-    ensures { result ≡ ephemerides_at s.now (from_bool accel) at }
+pub fn read_ephemerides(from: Cursor<'_>, accel: bool) -> Result<Found<Part>, Refusal>
+    ensures { result ≡ ephemerides_at from.entry.body.now (from_bool accel) from.entry.at }
 {
-    let counted = read_u(s, at, 16)?;
+    let counted = read_u(from, 16)?;
     let count = counted.value as usize;
     let size = entry_bits(accel);
     let need = count * size;
-    let from = counted.next as usize;
-    let have = 8 * s.len() - from;
+    let first = counted.next as usize;
+    let have = 8 * from.body.len() - first;
     if have < need {
         return Err(Refusal {
             fault: Fault::EphemerisCut,
@@ -71,98 +70,96 @@ pub fn read_ephemerides(s: &[u8], at: u16, accel: bool) -> Result<Found<Part>, R
         });
     }
     let part = Part {
-        start: from / 8,
+        start: first / 8,
         length: need / 8,
         count,
     };
     Ok(Found {
         value: part,
-        next: (from + need) as u16,
+        next: (first + need) as u16,
     })
 }
 
-// The 21 values of 32 bits from a place at which all of them are there.
-pub fn covariance_elements_at(s: &[u8], at: u16) -> [u32; 21]
-    requires { Room s.now at 672 }
-    ensures { result ≡ words_at s.now at 21 }
+// The 21 values of 32 bits from a place at which all of them are there. By the index, which is the place too.
+pub fn covariance_elements_at(from: Cursor<'_>) -> [u32; 21]
+    requires { Room from.body.now from.at 672 }
+    ensures { result ≡ words_at from.entry.body.now from.entry.at 21 }
 {
     let mut elements = [0u32; 21];
     for i in 0..21 {
-        let word = value_at(s, at + 32 * i as u16, 32);
+        let word = from.value(32 * i as u16, 32);
         elements[i] = word as u32;
     }
     elements
 }
 
 // The covariance at a place where it is all there.
-fn covariance_at(s: &[u8], at: u16) -> CovarianceData
-    requires { Room s.now at 728 }
-    ensures { result ≡ covariance_of s.now at }
+fn covariance_at(from: Cursor<'_>) -> CovarianceData
+    requires { Room from.body.now from.at 728 }
+    ensures { result ≡ covariance_of from.entry.body.now from.entry.at }
 {
-    let stamp = stamp_at(s, at);
+    let stamp = stamp_at(from);
     CovarianceData {
         covariance_epoch_year: stamp.year,
         covariance_epoch_day: stamp.day,
         covariance_epoch_day_fraction: stamp.fraction,
-        covariance_elements: covariance_elements_at(s, at + 56),
+        covariance_elements: covariance_elements_at(from.to(from.at + 56)),
         covariance_epoch_reserved_zero_future_use: stamp.reserved,
     }
 }
 
 // The covariance, there only if its flag is set.
 pub fn read_covariance(
-    s: &[u8],
-    at: u16,
+    from: Cursor<'_>,
     flag: bool,
 ) -> Result<Found<Option<CovarianceData>>, Refusal>
-    requires { Place s.now at }
-    ensures { result ≡ covariance_at s.now (from_bool flag) at }
+    ensures { result ≡ covariance_at from.entry.body.now (from_bool flag) from.entry.at }
 {
     if !flag {
         return Ok(Found {
             value: None,
-            next: at,
+            next: from.at,
         });
     }
-    enough(s, at, Fault::CovarianceCut, 728)?;
+    enough(from, Fault::CovarianceCut, 728)?;
     Ok(Found {
-        value: Some(covariance_at(s, at)),
-        next: at + 728,
+        value: Some(covariance_at(from)),
+        next: from.at + 728,
     })
 }
 
-// An entry's acceleration, if it has one; at: the place of the entry.
-fn acceleration_at(s: &[u8], at: u16, accel: bool) -> Option<EphemerisAccel>
-    requires { Ahead s.now accel at }
-    ensures { result ≡ accel_of s.now at accel }
+// An entry's acceleration, if it has one; from: the entry's own place.
+fn acceleration_at(from: Cursor<'_>, accel: bool) -> Option<EphemerisAccel>
+    requires { Ahead from.body.now accel from.at }
+    ensures { result ≡ accel_of from.entry.body.now from.entry.at accel }
 {
     if !accel {
         return None;
     }
     Some(EphemerisAccel {
-        ephemeris_x_ddot: value_at(s, at + 248, 32) as u32,
-        ephemeris_y_ddot: value_at(s, at + 280, 32) as u32,
-        ephemeris_z_ddot: value_at(s, at + 312, 32) as u32,
+        ephemeris_x_ddot: from.value(248, 32) as u32,
+        ephemeris_y_ddot: from.value(280, 32) as u32,
+        ephemeris_z_ddot: from.value(312, 32) as u32,
     })
 }
 
 // The ephemeris entry at a place where all of it is there.
-fn entry_at(s: &[u8], at: u16, accel: bool) -> EphemerisData
-    requires { Room s.now at (entry_width accel) }
-    ensures { result ≡ entry_of s.now at accel }
+fn entry_at(from: Cursor<'_>, accel: bool) -> EphemerisData
+    requires { Room from.body.now from.at (entry_width accel) }
+    ensures { result ≡ entry_of from.entry.body.now from.entry.at accel }
 {
-    let stamp = stamp_at(s, at);
-    let acceleration = acceleration_at(s, at, accel);
+    let stamp = stamp_at(from);
+    let acceleration = acceleration_at(from, accel);
     EphemerisData {
         epoch_year: stamp.year,
         epoch_day: stamp.day,
         epoch_day_fraction: stamp.fraction,
-        ephemeris_x: value_at(s, at + 56, 32) as u32,
-        ephemeris_y: value_at(s, at + 88, 32) as u32,
-        ephemeris_z: value_at(s, at + 120, 32) as u32,
-        ephemeris_x_dot: value_at(s, at + 152, 32) as u32,
-        ephemeris_y_dot: value_at(s, at + 184, 32) as u32,
-        ephemeris_z_dot: value_at(s, at + 216, 32) as u32,
+        ephemeris_x: from.value(56, 32) as u32,
+        ephemeris_y: from.value(88, 32) as u32,
+        ephemeris_z: from.value(120, 32) as u32,
+        ephemeris_x_dot: from.value(152, 32) as u32,
+        ephemeris_y_dot: from.value(184, 32) as u32,
+        ephemeris_z_dot: from.value(216, 32) as u32,
         acceleration,
         reserved_zero_future_use: stamp.reserved,
     }
@@ -187,9 +184,13 @@ pub fn ephemeris_data_at(
         return None;
     }
     let size = entry_bits(accel) / 8;
-    let from = start + size * index;
-    if length < from + size {
+    let first = start + size * index;
+    if length < first + size {
         return None;
     }
-    Some(entry_at(body, (8 * from) as u16, accel))
+    let from = Cursor {
+        body,
+        at: (8 * first) as u16,
+    };
+    Some(entry_at(from, accel))
 }

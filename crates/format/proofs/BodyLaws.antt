@@ -2,6 +2,7 @@
 -- Assumes nothing.
 use mathlib.Core.Path.{◌≡◌, refl, sym, ap, ◌∙◌}
 use mathlib.Core.Bool.{Bool, true, false, cond, true≢false}
+use mathlib.Core.Logic.{⊎_elim}
 use mathlib.Core.List.{List, [], ◌∷◌, ◌++◌, append_assoc, append-nil}
 use Prim.Native.Nat.{ℕ, ◌+◌, ◌*◌, ◌-◌, ◌%◌, ◌^◌, ◌<◌, ◌≤◌}
 use native.Mathlib.Omega.{arith}
@@ -9,6 +10,7 @@ use lib.Dec.{T, leb, eqb}
 use lib.ListN.{length, take, drop, replicate, length-append, length-take, length-drop, drop_of_length-le, take-append-drop}
 use lib.Seq.{take_at, drop_at, take_all, length-take-le, drop-append_seam, take-append_seam}
 use borrow.Author.Tests.{le-leb, lt-leb, leb-true, leb-false, eq-eqb, eqb-true}
+use Rattle.std.proofs.lemmas.Bool.{cases_lt, cond_both}
 use Rattle.format.specs.Digits.{digits, value, Below}
 use Rattle.format.specs.Syntax.{Name, Syntax, end, field, when, need, at_most, slots, plan, raw, Field, num, flags, bytes, got}
 use Rattle.format.specs.declared.Edition.TheVariants.{Second}
@@ -22,11 +24,7 @@ use Rattle.format.proofs.Good
 
 -- a plan is at most 4095 bytes
 pub small : (v m : ℕ) → (2 ^ 12 ≤ v → 8 * v ≡ m) → 12 + m ≤ 32768 → v < 2 ^ 12
-small v m w h = go (leb (2 ^ 12) v) refl
-  where
-    go : (t : Bool) → leb (2 ^ 12) v ≡ t → v < 2 ^ 12
-    go true q = let e : 8 * v ≡ m = w (leb-true (2 ^ 12) v q) in absurd (omega (arith, leb-true (2 ^ 12) v q))
-    go false q = leb-false (2 ^ 12) v q
+small v m w h = ⊎_elim (λ l. l) (λ g. absurd (omega (arith, w g))) (cases_lt v (2 ^ 12))
 
 -- raw bytes are those that the reading takes
 raw_same : (n e : ℕ) (bs rest : List ℕ) → length bs + length rest ≤ n → n - length rest ≤ e → raw_left (leb e n) (e - (n - length rest)) (bytes "" bs ∷ []) ≡ true
@@ -158,11 +156,7 @@ one_more {n} {e} m bs us g q h w r = record {
 }
 
 raw_bits_lem : (n e l : ℕ) → n % 8 ≡ 0 → e % 8 ≡ 0 → l % 8 ≡ 0 → l ≤ n → (m : ℕ) → cond (leb e n) (e - (n - l)) 0 ≡ m → (m ≤ l) × (m % 8 ≡ 0)
-raw_bits_lem n e l hn he hl h m q = go (leb e n) refl q
-  where
-    go : (t : Bool) → leb e n ≡ t → cond t (e - (n - l)) 0 ≡ m → (m ≤ l) × (m % 8 ≡ 0)
-    go true p q' = omega (arith, leb-true e n p)
-    go false p q' = omega arith
+raw_bits_lem n e l hn he hl h m = cond_both (leb e n) (e - (n - l)) 0 (λ (k : ℕ). k ≡ m → (m ≤ l) × (m % 8 ≡ 0)) (λ p q. omega (arith, leb-true e n p)) (λ p q. omega arith)
 
 raw_rest : (n e m f : ℕ) (bs : List ℕ) → length bs ≤ n → cond (leb e n) (e - (n - length bs)) 0 ≡ m → (leb e n ≡ true → f ≡ e - (n - length (drop m bs)))
     → cond (leb e n) (eqb f 0) (eqb (length (take m bs)) 0) ≡ true
@@ -255,8 +249,8 @@ module _ (n : ℕ) (n8 : n % 8 ≡ 0) where
   sound l i b c e (when false u z) bs f h a g x y q = let r = sound l i b c e z bs f.1 h a g x y q in again r (Good.g_no r.good)
   sound l i b c e (need j w k) bs {ts} {rest} f h a g x y q =
       let p = cond_got (leb w (length bs)) _ _ _ _ q in
-      let r : Read n e l i k bs ts rest = sound l i b c e k bs f.2 h a g x y p.1 in
-      again r (Good.g_need j w (Good.least w r.good f.1) r.good)
+      let r : Read n e l i k bs ts rest = sound l i b c e k bs f.1 h a g x y p.1 in
+      again r (Good.g_need j w (Good.least w r.good f.0) r.good)
   sound l i b c e (at_most j v m k) bs {ts} {rest} f h a g x y q =
       let p = cond_got (leb v m) _ _ _ _ q in
       let r : Read n e l i k bs ts rest = sound l i b c e k bs f.2 h a g x y p.1 in
@@ -269,10 +263,10 @@ module _ (n : ℕ) (n8 : n % 8 ≡ 0) where
       let hm : m ≤ length bs = leb-true m (length bs) p.0 in
       let lt : length (take m bs) ≡ m = length-take-le m bs hm in
       let la : length after ≡ length bs - 8 * wholes m = length-drop (8 * wholes m) bs in
-      let r : Read n e l i k after o.0 rest = sound l i b c e k after f.2 (below_drop 2 (8 * wholes m) bs h) (omega (arith, f.1)) (omega arith) x y o.1 in
+      let r : Read n e l i k after o.0 rest = sound l i b c e k after f.1 (below_drop 2 (8 * wholes m) bs h) (omega (arith, f.0)) (omega arith) x y o.1 in
       rw o.2
       (one_more (8 * wholes m) bs o.0 (Good.g_slots nm j m (take m bs) lt (below_take 2 m bs h) r.good)
-      (omega (arith, Good.laid_flags Second nm (take m bs) o.0, ap wholes lt)) (omega (arith, f.1)) (λ _ _. refl) r)
+      (omega (arith, Good.laid_flags Second nm (take m bs) o.0, ap wholes lt)) (omega (arith, f.0)) (λ _ _. refl) r)
   sound l i b c e (plan nm k) bs {ts} {rest} f h a g x y q =
       let after : List ℕ = drop 12 bs in
       let la : length after ≡ length bs - 12 = length-drop 12 bs in

@@ -3,7 +3,7 @@
 use mathlib.Core.Path.{◌≡◌, refl, sym, ap, ap₂, ◌∙◌, subst}
 use mathlib.Core.Bool.{Bool, true, false, cond}
 use mathlib.Core.Logic.{◌↔◌}
-use mathlib.Core.List.{List, [], ◌++◌}
+use mathlib.Core.List.{List, []}
 use Prim.Native.Nat.{ℕ, ◌+◌, ◌*◌, ◌<◌, ◌≤◌}
 use native.Mathlib.Nat.{zero-add}
 use native.Mathlib.Omega.{arith}
@@ -12,6 +12,7 @@ use lib.ListN.{length, drop, length-append, length-drop}
 use lib.Seq.{take-append_seam, drop-append_seam}
 use borrow.Author.Tests.{le-leb, lt-leb, leb-true}
 use Rattle.std.specs.Prelude.{Result, Err}
+use Rattle.std.proofs.lemmas.Bool.{cond_both}
 use Rattle.format.specs.declared.Fault.{Fault}
 use Rattle.format.specs.Digits.{Below, splice}
 use Rattle.format.specs.Refusals.{refuse}
@@ -34,11 +35,9 @@ use Rattle.format.proofs.Demand.{IsLedger, ledger_before, accepted_before, still
 pub left_length : (out : List ℕ) (p : Parse (List ℕ)) → length (left out p) ≡ length out
 unfolding left splice
 left_length out (refused x y z) = refl
-left_length out (got xs rest) = go (leb (length xs) (length out)) refl
-  where
-    go : (t : Bool) → leb (length xs) (length out) ≡ t → length (cond t (xs ++ drop (0 + length xs) out) out) ≡ length out
-    go true e = length-append xs (drop (0 + length xs) out) ∙ omega (arith, length-drop (0 + length xs) out, leb-true (length xs) (length out) e)
-    go false e = refl
+left_length out (got xs rest) =
+    cond_both (leb (length xs) (length out)) (splice out 0 xs) out (λ (o : List ℕ). length o ≡ length out)
+    (λ e. length-append xs (drop (0 + length xs) out) ∙ omega (arith, length-drop (0 + length xs) out, leb-true (length xs) (length out) e)) (λ _. refl)
 
 -- the answer by a result's length alone
 pub fits : {id n room : ℕ} → n ≤ room → Fitted id n room (done id n)
@@ -53,14 +52,14 @@ over {id} {n} {room} h = record { is = λ xs rest e. rw (← e, lt-leb n room h)
 pub answer_done : {t n : ℕ} (id room : ℕ) (p : Parse (List ℕ)) → answer id room p ≡ done t n
     → (xs : List ℕ) × (rest : List ℕ) × (p ≡ got xs rest) × (length xs ≡ n) × (n ≤ room)
 unfolding answer length_of
-answer_done id room (refused x y z) e = let o : ◌≡◌ {A = ℕ} 0 1 = cc in absurd (omega arith)
+answer_done id room (refused x y z) e = absurd cc
 answer_done {t} {n} id room (got xs rest) e = let o = go (leb (length xs) room) refl _ e in (xs, rest, refl, o.0, o.1)
   where
     go : (b : Bool) → leb (length xs) room ≡ b → (f : Refusal) → cond b (done id (length xs)) (Err f) ≡ done t n → (length xs ≡ n) × (n ≤ room)
     go true q f e =
         let z : length xs ≡ n = ap length_of e in
         (z, omega (arith, z, leb-true (length xs) room q))
-    go false q f e = let o : ◌≡◌ {A = ℕ} 0 1 = cc in absurd (omega arith)
+    go false q f e = absurd cc
 
 -- or that the buffer is as it was
 pub answer_refused : {f : Refusal} (id : ℕ) (out : List ℕ) (p : Parse (List ℕ)) → answer id (length out) p ≡ Err f → left out p ≡ out
@@ -69,7 +68,7 @@ answer_refused id out (refused x y z) e = refl
 answer_refused {f} id out (got xs rest) e = go (leb (length xs) (length out)) _ e
   where
     go : (t : Bool) (g : Refusal) → cond t (done id (length xs)) (Err g) ≡ Err f → cond t (splice out 0 xs) out ≡ out
-    go true g e = let o : ◌≡◌ {A = ℕ} 0 1 = cc in absurd (omega arith)
+    go true g e = absurd cc
     go false g e = refl
 
 pub write_within_lem : {t n : ℕ} (ed : Edition) (id : ℕ) (b : List ℕ) (room : ℕ) → write_answer ed id b room ≡ done t n → n ≤ room

@@ -7,8 +7,9 @@ use mathlib.Core.List.{List, [], ◌∷◌, ◌++◌}
 use Prim.Native.Nat.{ℕ, suc, ◌+◌, ◌*◌, ◌-◌, ◌^◌, ◌<◌, ◌≤◌}
 use native.Mathlib.Omega.{arith}
 use lib.Dec.{leb, eqb}
-use lib.ListN.{length, take, drop, get_or, length-append, length-drop}
+use lib.ListN.{length, take, drop, get_or, length-append, length-drop, take-append-drop}
 use borrow.Author.Tests.{le-leb, leb-true, eq-eqb, eqb-true}
+use Rattle.std.proofs.lemmas.List.{drop_more}
 use Rattle.format.specs.Digits.{digits, value, Below}
 use Rattle.format.specs.Syntax.{Parse, got}
 use Rattle.format.specs.declared.Edition.{Edition}
@@ -191,11 +192,7 @@ ledger_again {id} {b} {t} ed p =
 -- ---- a ledger that is read
 
 cut : (l : List ℕ) → 4 ≤ length l → l ≡ take 2 l ++ (get_or l 2 0 ∷ get_or l 3 0 ∷ drop 4 l)
-cut [] h = absurd (omega arith)
-cut (a ∷ []) h = absurd (omega arith)
-cut (a ∷ b ∷ []) h = absurd (omega arith)
-cut (a ∷ b ∷ c ∷ []) h = absurd (omega arith)
-cut (a ∷ b ∷ c ∷ d ∷ l) h = refl
+cut l h = rw (← drop_more l 3 0 (omega arith), ← drop_more l 2 0 (omega arith)) (sym (take-append-drop 2 l))
 
 -- it is the ledger, in its edition, of its id and of the body that comes back, which were accepted before
 pub read_accepted : (l : List ℕ) (t : Table) → Below 256 l → ledger_read l ≡ got t [] → AcceptedBefore (id_of l) (body_of (edition_of l) t) t × (ledger_of (edition_of l) (id_of l) t ≡ l)

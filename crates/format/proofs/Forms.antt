@@ -141,9 +141,9 @@ good_form ed b c Good.g_end f = Good.g_end
 good_form ed b c (Good.g_field g nm w k v h e r) f = Good.g_field g nm w k v h e (good_form ed (b + w) _ r (f.1 v))
 good_form ed b c (Good.g_yes r) f = Good.g_yes (good_form ed b c r f.0)
 good_form ed b c (Good.g_no r) f = Good.g_no (good_form ed b c r f.1)
-good_form ed b c (Good.g_need a w h r) f = let r' = good_form ed b c r f.2 in Good.g_need a w (Good.least w r' f.1) r'
+good_form ed b c (Good.g_need a w h r) f = let r' = good_form ed b c r f.1 in Good.g_need a w (Good.least w r' f.0) r'
 good_form ed b c (Good.g_most a v m h r) f = Good.g_most a v m h (good_form ed b c r f.2)
-good_form ed b c (Good.g_slots nm a m bs e h r) f = Good.g_slots nm a m bs e h (good_form ed b c r f.2)
+good_form ed b c (Good.g_slots nm a m bs e h r) f = Good.g_slots nm a m bs e h (good_form ed b c r f.1)
 good_form First b c (Good.g_plan nm v fs {k} {ts} e r) f =
     rw (form_planned First nm v fs r) (Good.g_plan nm (length (kept ts) / 8) [] (exact_ending ts e.fields) r)
 good_form Second b c (Good.g_plan nm v fs {k} {ts} e r) f = rw (form_2 (planned nm v ts fs)) (Good.g_plan nm v fs e r)

@@ -11,7 +11,6 @@ use lib.ListN.{length, replicate, length-append, length-replicate}
 use borrow.Author.Tests.{eq-eqb, ne_eqb, eqb-true, lt-ltb, ltb-true}
 use Rattle.format.specs.declared.Fault.{Fault}
 use Rattle.format.specs.declared.Fault.TheVariants.{ExtensionTooLarge}
-use Rattle.format.specs.Refusals.{fault_number}
 use Rattle.format.specs.Digits.{digits, Below, bytes_of}
 use Rattle.format.specs.Syntax.{Name, Sign, unsigned, signed, Syntax, end, field, when, need, at_most, slots, plan, raw, before, Field, num, flags, bytes, len, filler, added}
 use Rattle.format.specs.declared.Edition.{Edition}
@@ -265,17 +264,17 @@ planless m p (g_raw nm bs h a) = g_raw nm bs h a
 
 -- ---- what is asked of a description
 
--- Widths are ones that a ledger has; refusals have numbers; tests are those of extensions; what `need` asks for
--- follows; slots and raw bytes start on a byte and an entry ends on one; no plan stands in a plan; a ledger takes at
--- most a byte for four bits, also with a plan's length and the filler's count.
+-- Widths are ones that a ledger has; tests are those of extensions; what `need` asks for follows; slots and raw bytes
+-- start on a byte and an entry ends on one; no plan stands in a plan; a ledger takes at most a byte for four bits, also
+-- with a plan's length and the filler's count.
 -- b: the bits before, from a place that starts a byte; c: their bytes in the ledger
 abbrev pub Fine : Bool → ℕ → ℕ → Syntax → Type 0
 Fine i b c end = (b % 8 ≡ 0) × T (leb (4 * c) b)
 Fine i b c (field g nm w k) = T (leb w (widest g)) × ((v : ℕ) → Fine i (b + w) (c + size g w) (k v))
 Fine i b c (when t k l) = Fine i b c k × Fine i b c l
-Fine i b c (need a w k) = T (ltb 0 (fault_number a)) × Least w k × Fine i b c k
+Fine i b c (need a w k) = Least w k × Fine i b c k
 Fine i b c (at_most a v m k) = (a ≡ ExtensionTooLarge) × (m ≡ 299) × Fine i b c k
-Fine i b c (slots nm a m k) = T (ltb 0 (fault_number a)) × (b % 8 ≡ 0) × Fine i b c k
+Fine i b c (slots nm a m k) = (b % 8 ≡ 0) × Fine i b c k
 Fine i b c (plan nm k) = (T i → ⊥) × ((b + 12) % 8 ≡ 0) × Fine true (b + 12) (c + 4) k
 Fine i b c (raw nm) = T i × (b % 8 ≡ 0) × T (leb (4 * (c + 2)) b)
 
@@ -285,9 +284,9 @@ fine_more i b c b' c' end e l f = (sym e ∙ f.0, le→leb (4 * c') b' (omega (a
 fine_more i b c b' c' (field g nm w k) e l f =
     (f.0, λ v. fine_more i (b + w) (c + size g w) (b' + w) (c' + size g w) (k v) (omega arith) (omega arith) (f.1 v))
 fine_more i b c b' c' (when t x y) e l f = (fine_more i b c b' c' x e l f.0, fine_more i b c b' c' y e l f.1)
-fine_more i b c b' c' (need a w k) e l f = (f.0, f.1, fine_more i b c b' c' k e l f.2)
+fine_more i b c b' c' (need a w k) e l f = (f.0, fine_more i b c b' c' k e l f.1)
 fine_more i b c b' c' (at_most a v m k) e l f = (f.0, f.1, fine_more i b c b' c' k e l f.2)
-fine_more i b c b' c' (slots nm a m k) e l f = (f.0, sym e ∙ f.1, fine_more i b c b' c' k e l f.2)
+fine_more i b c b' c' (slots nm a m k) e l f = (sym e ∙ f.0, fine_more i b c b' c' k e l f.1)
 fine_more i b c b' c' (plan nm k) e l f = (f.0, omega (arith, f.1), fine_more true (b + 12) (c + 4) (b' + 12) (c' + 4) k (omega arith) (omega arith) f.2)
 fine_more i b c b' c' (raw nm) e l f = (f.0, sym e ∙ f.1, le→leb (4 * (c' + 2)) b' (omega (arith, leb→le (4 * (c + 2)) b f.2)))
 
@@ -301,10 +300,10 @@ whole ed b c (g_field g nm w k v {ts} _ _ r) f =
     (omega (arith, laid_num Second g nm w v ts), simp (length-append, length_digits) (omega (arith, laid_num Second g nm w v ts)))
 whole ed b c (g_yes r) f = whole ed b c r f.0
 whole ed b c (g_no r) f = whole ed b c r f.1
-whole ed b c (g_need a w _ r) f = whole ed b c r f.2
+whole ed b c (g_need a w _ r) f = whole ed b c r f.1
 whole ed b c (g_most a v m _ r) f = whole ed b c r f.2
 whole ed b c (g_slots nm a m bs {ts} _ _ r) f =
-    let o = whole ed b c r f.2 in
+    let o = whole ed b c r f.1 in
     (omega (arith, laid_flags Second nm bs ts), simp (length-append, length_bytes) (omega (arith, laid_flags Second nm bs ts)))
 whole ed b c (g_plan nm v fs {ts} e r) f =
     let o = whole ed (b + 12) (c + 4) r f.2 in
@@ -330,9 +329,9 @@ pub fine_before : (i : Bool) (b c : ℕ) (s : Syntax) → Fine i b c s → Fine 
 fine_before i b c end f = f
 fine_before i b c (field g nm w k) f = (f.0, λ v. fine_before i (b + w) (c + size g w) (k v) (f.1 v))
 fine_before i b c (when t k l) f = (fine_before i b c k f.0, fine_before i b c l f.1)
-fine_before i b c (need a w k) f = (f.0, least_before w k f.1, fine_before i b c k f.2)
+fine_before i b c (need a w k) f = (least_before w k f.0, fine_before i b c k f.1)
 fine_before i b c (at_most a v m k) f = fine_before i b c k f.2
-fine_before i b c (slots nm a m k) f = (f.0, f.1, fine_before i b c k f.2)
+fine_before i b c (slots nm a m k) f = (f.0, fine_before i b c k f.1)
 fine_before i b c (plan nm k) f = (f.0, f.1, fine_before true (b + 12) (c + 4) k f.2)
 fine_before i b c (raw nm) f = f
 

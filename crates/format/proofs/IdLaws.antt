@@ -11,6 +11,7 @@ use native.Mathlib.Omega.{arith}
 use lib.Dec.{eqb}
 use lib.ListN.{length}
 use borrow.Author.Tests.{eqb-true, eqb-false, eq-eqb, ne_eqb}
+use Rattle.std.proofs.lemmas.Bool.{cond_both}
 use Rattle.format.specs.Added.{without, first_of_each, NoneTwice, Distinct, place_of, InOrder}
 
 -- ---- a list without an id
@@ -20,13 +21,10 @@ module _ (x : ℕ) where
   without_from : (z : ℕ) (l : List ℕ) → Memᴰ z (without x l) → Memᴰ z l × (z ≡ x → ⊥)
   unfolding without
   without_from z [] m = absurd (Memᴰ.not-nil m)
-  without_from z (y ∷ l) m = go (eqb x y) refl (without_from z l) m
-    where
-      go : (t : Bool) → eqb x y ≡ t → (Memᴰ z (without x l) → Memᴰ z l × (z ≡ x → ⊥)) → Memᴰ z (cond t (without x l) (y ∷ without x l))
-          → Memᴰ z (y ∷ l) × (z ≡ x → ⊥)
-      go true e ih m = let o = ih m in (Memᴰ.tail o.0, o.1)
-      go false e ih m =
-          ⊎_elim (λ q. (Memᴰ.head q, λ w. eqb-false x y e (sym w ∙ q))) (λ q. let o = ih q in (Memᴰ.tail o.0, o.1)) (Memᴰ.cases_cons m)
+  without_from z (y ∷ l) m =
+      let behind : Memᴰ z (without x l) → Memᴰ z (y ∷ l) × (z ≡ x → ⊥) = λ q. let o = without_from z l q in (Memᴰ.tail o.0, o.1) in
+      cond_both (eqb x y) (without x l) (y ∷ without x l) (λ (k : List ℕ). Memᴰ z k → Memᴰ z (y ∷ l) × (z ≡ x → ⊥)) (λ _. behind)
+      (λ e w. ⊎_elim (λ q. (Memᴰ.head q, λ v. eqb-false x y e (sym v ∙ q))) behind (Memᴰ.cases_cons w)) m
 
   -- what was there and is another is there
   without_keeps : (z : ℕ) (l : List ℕ) → (z ≡ x → ⊥) → Memᴰ z l → Memᴰ z (without x l)
@@ -44,20 +42,16 @@ module _ (x : ℕ) where
   without_once : (l : List ℕ) → NoneTwice l → NoneTwice (without x l)
   unfolding without
   without_once [] n = tt
-  without_once (y ∷ l) n = go (eqb x y) (without_once l n.1)
-    where
-      go : (t : Bool) → NoneTwice (without x l) → NoneTwice (cond t (without x l) (y ∷ without x l))
-      go true k = k
-      go false k = (λ m. n.0 (without_from y l m).0, k)
+  without_once (y ∷ l) n =
+      let k : NoneTwice (without x l) = without_once l n.1 in
+      cond_both (eqb x y) (without x l) (y ∷ without x l) NoneTwice (λ _. k) (λ _. (λ m. n.0 (without_from y l m).0, k))
 
   without_shorter : (l : List ℕ) → length (without x l) ≤ length l
   unfolding without
   without_shorter [] = omega arith
-  without_shorter (y ∷ l) = go (eqb x y) (without_shorter l)
-    where
-      go : (t : Bool) → length (without x l) ≤ length l → length (cond t (without x l) (y ∷ without x l)) ≤ length (y ∷ l)
-      go true h = omega (arith, h)
-      go false h = omega (arith, h)
+  without_shorter (y ∷ l) =
+      let h : length (without x l) ≤ length l = without_shorter l in
+      cond_both (eqb x y) (without x l) (y ∷ without x l) (λ (k : List ℕ). length k ≤ length (y ∷ l)) (λ _. omega arith) (λ _. omega arith)
 
 -- ---- document 01's properties
 
@@ -108,15 +102,14 @@ module _ (x : ℕ) (ids : List ℕ) where
   order_behind : (l : List ℕ) → InOrder ids l → InOrder (x ∷ ids) (without x l)
   unfolding without
   order_behind [] o = tt
-  order_behind (y ∷ l) o = go (eqb x y) refl (order_behind l o.1)
-    where
-      go : (t : Bool) → eqb x y ≡ t → InOrder (x ∷ ids) (without x l) → InOrder (x ∷ ids) (cond t (without x l) (y ∷ without x l))
-      go true e k = k
-      go false e k = (
+  order_behind (y ∷ l) o =
+      let k : InOrder (x ∷ ids) (without x l) = order_behind l o.1 in
+      cond_both (eqb x y) (without x l) (y ∷ without x l) (InOrder (x ∷ ids)) (λ _. k)
+      (λ e. (
         λ z m. let q = without_from x z l m in
             rw (place_behind y (λ w. eqb-false x y e (sym w)), place_behind z q.1) (omega (arith, o.0 z q.0)),
         k,
-      )
+      ))
 
 -- they stand in the order of their first places
 pub first_order : (ids : List ℕ) → InOrder ids (first_of_each ids)

@@ -11,6 +11,7 @@ use lib.ListN.{length, take, drop, replicate, length-drop, take-append-drop}
 use lib.Pow.{pow_mono, pow_pos, high_ones}
 use lib.Seq.{take_at, drop_at, length-take-le, drop-append_seam, take-append_seam}
 use borrow.Author.Tests.{leb-true, eq-eqb, eqb-true}
+use Rattle.std.proofs.lemmas.Bool.{cond_both}
 use Rattle.format.specs.Digits.{digits, value, Below, bits_of, bytes_of}
 use Rattle.format.specs.Syntax.{Name, Sign, unsigned, signed, Syntax, end, field, when, need, at_most, slots, plan, raw, before, Field, num, flags, bytes, Parse, got, refused, and_then, push}
 use Rattle.format.specs.declared.Edition.{Edition}
@@ -28,19 +29,13 @@ use Rattle.format.proofs.BodyLaws.{small}
 
 -- the bytes have room for every number of the field
 size_fits : (w : ℕ) → T (leb w 64) → 2 ^ w ≤ 256 ^ size unsigned w
-size_fits w h = go8 (leb w 8) refl
+size_fits w h =
+    cond_both (leb w 8) 1 _ room (λ e. pow_mono {j = 8} (leb-true w 8 e))
+    (λ _. cond_both (leb w 16) 2 _ room (λ e. pow_mono {j = 16} (leb-true w 16 e))
+    (λ _. cond_both (leb w 32) 4 8 room (λ e. pow_mono {j = 32} (leb-true w 32 e)) (λ _. pow_mono {j = 64} (leb→le w 64 h))))
   where
-    go32 : (t : Bool) → leb w 32 ≡ t → 2 ^ w ≤ 256 ^ cond t 4 8
-    go32 true e = pow_mono {i = w} {j = 32} (leb-true w 32 e)
-    go32 false e = pow_mono {i = w} {j = 64} (leb→le w 64 h)
-
-    go16 : (t : Bool) → leb w 16 ≡ t → 2 ^ w ≤ 256 ^ cond t 2 (cond (leb w 32) 4 8)
-    go16 true e = pow_mono {i = w} {j = 16} (leb-true w 16 e)
-    go16 false e = go32 (leb w 32) refl
-
-    go8 : (t : Bool) → leb w 8 ≡ t → 2 ^ w ≤ 256 ^ cond t 1 (cond (leb w 16) 2 (cond (leb w 32) 4 8))
-    go8 true e = pow_mono {i = w} {j = 8} (leb-true w 8 e)
-    go8 false e = go16 (leb w 16) refl
+    room : ℕ → Type 0
+    room k = 2 ^ w ≤ 256 ^ k
 
 pub widened_lt : (g : Sign) (w v : ℕ) → T (leb w (Good.widest g)) → v < 2 ^ w → widened g w v < 256 ^ size g w
 widened_lt unsigned w v h l = lt_of_lt_of_le l (size_fits w h)
@@ -333,8 +328,8 @@ module _ (n : ℕ) where
   found ed l i b c (when true y z) bs f h e = let r = found ed l i b c y bs f.0 h e in record { good = Good.g_yes r.good; same = r.same; back = r.back; below = r.below }
   found ed l i b c (when false y z) bs f h e = let r = found ed l i b c z bs f.1 h e in record { good = Good.g_no r.good; same = r.same; back = r.back; below = r.below }
   found ed l i b c (need a w k) bs f h e =
-      let r = found ed l i b c k bs f.2 h e in
-      record { good = Good.g_need a w (Good.least w r.good (Good.least_before w k f.1)) r.good; same = r.same; back = r.back; below = r.below }
+      let r = found ed l i b c k bs f.1 h e in
+      record { good = Good.g_need a w (Good.least w r.good (Good.least_before w k f.0)) r.good; same = r.same; back = r.back; below = r.below }
   found ed l i b c (at_most a v m k) bs f h e = found ed l i b c k bs f.2 h e
   found ed l i b c (slots nm a m k) bs {ts} {rest} f h e =
       let q : ℕ = wholes m in
@@ -342,7 +337,7 @@ module _ (n : ℕ) where
       let fs : List ℕ = take m (bits_of ys) in
       let p = grant_got n q (eqb (value 2 (drop m (bits_of ys))) 0) bs (push (flags nm fs) (read_ledger ed l n k (drop q bs))) e in
       let o = push_got (flags nm fs) (read_ledger ed l n k (drop q bs)) p.2 in
-      let r : Found ed l i (before k) (drop q bs) o.0 rest = found ed l i b c k (drop q bs) f.2 (below_drop 256 q bs h) o.1 in
+      let r : Found ed l i (before k) (drop q bs) o.0 rest = found ed l i b c k (drop q bs) f.1 (below_drop 256 q bs h) o.1 in
       let s : (length fs ≡ m) × (bytes_of q (fs ++ replicate (8 * q - m) 0) ≡ ys) =
       slots_back m ys (below_take 256 q bs h) (length-take-le q bs p.0) (eqb-true (value 2 (drop m (bits_of ys))) 0 p.1) in
       rw o.2 (record {

@@ -5,6 +5,7 @@ pub mod Forms
 pub mod BodyLaws
 pub mod LedgerLaws
 pub mod FineTables
+pub mod NamedLaws
 pub mod EntryLaws
 pub mod TableLaws
 pub mod TestLaws

@@ -4,10 +4,10 @@ use mathlib.Core.Path.{◌≡◌, refl}
 use mathlib.Core.Bool.{Bool, true, false, cond}
 use mathlib.Core.List.{List, ◌∷◌}
 use Prim.Native.Nat.{ℕ, zero, suc, ◌+◌, ◌*◌, ◌-◌, ◌<◌}
-use native.Mathlib.Omega.{arith}
 use lib.Dec.{leb}
 use lib.ListN.{length, take, drop}
 use borrow.Author.Tests.{leb-false}
+use Rattle.std.proofs.lemmas.Bool.{cond_both}
 use Rattle.format.specs.declared.Fault.{Fault}
 use Rattle.format.specs.Digits.{value, bits_of}
 use Rattle.format.specs.Syntax.{Syntax, end, field, when, need, at_most, slots, plan, raw, before, Field, num, flags, Parse, got, refused, and_then, push}
@@ -25,7 +25,7 @@ pub data Tested {A : Type 0} : Parse A → Parse A → Type 0 where
 -- what is read now was read before
 pub tested_got : {A : Type 0} {p q : Parse A} {a : A} {rest : List ℕ} → Tested p q → p ≡ got a rest → q ≡ got a rest
 tested_got alike e = e
-tested_got (above h) e = let o : ◌≡◌ {A = ℕ} 0 1 = cc in absurd (omega arith)
+tested_got (above h) e = absurd cc
 
 -- what was read before is read now, but for an extension
 pub data Still {A : Type 0} (p : Parse A) (a : A) (rest : List ℕ) : Type 0 where
@@ -50,11 +50,7 @@ tested_push : {A : Type 0} (x : A) (p q : Parse (List A)) → Tested p q → Tes
 tested_push x p q h = tested_then p q (λ xs rest. got (x ∷ xs) rest) (λ xs rest. got (x ∷ xs) rest) h (λ _ _. alike)
 
 tested_most : (a : Fault) (v m : ℕ) (p q : Parse (List Field)) → a ≡ ExtensionTooLarge → m ≡ 299 → Tested p q → Tested (cond (leb v m) p (refused a v m)) q
-tested_most a v m p q e d x = go (leb v m) refl
-  where
-    go : (t : Bool) → leb v m ≡ t → Tested (cond t p (refused a v m)) q
-    go true l = x
-    go false l = rw (e, d) (above (rw d at (leb-false v m l)))
+tested_most a v m p q e d x = cond_both (leb v m) p (refused a v m) (λ (y : Parse (List Field)). Tested y q) (λ _. x) (λ l. rw (e, d) (above (rw d at (leb-false v m l))))
 
 tested_body : (i : Bool) (b c n e : ℕ) (s : Syntax) (bs : List ℕ) → Fine i b c s → Tested (read_body n e s bs) (read_body n e (before s) bs)
 unfolding read_body
@@ -64,10 +60,10 @@ tested_body i b c n e (field g nm w k) bs f =
     tested_cond (leb w (length bs)) _ _ _ (tested_push (num g nm w v) _ _ (tested_body i (b + w) (c + size g w) n e (k v) (drop w bs) (f.1 v)))
 tested_body i b c n e (when true k l) bs f = tested_body i b c n e k bs f.0
 tested_body i b c n e (when false k l) bs f = tested_body i b c n e l bs f.1
-tested_body i b c n e (need a w k) bs f = tested_cond (leb w (length bs)) _ _ _ (tested_body i b c n e k bs f.2)
+tested_body i b c n e (need a w k) bs f = tested_cond (leb w (length bs)) _ _ _ (tested_body i b c n e k bs f.1)
 tested_body i b c n e (at_most a v m k) bs f = tested_most a v m _ _ f.0 f.1 (tested_body i b c n e k bs f.2)
 tested_body i b c n e (slots nm a m k) bs f =
-    tested_cond (leb m (length bs)) _ _ _ (tested_push (flags nm (take m bs)) _ _ (tested_body i b c n e k (drop (8 * wholes m) bs) f.2))
+    tested_cond (leb m (length bs)) _ _ _ (tested_push (flags nm (take m bs)) _ _ (tested_body i b c n e k (drop (8 * wholes m) bs) f.1))
 tested_body i b c n e (plan nm k) bs f =
     let v : ℕ = value 2 (take 12 bs) in
     let e' : ℕ = n - length (drop 12 bs) + 8 * v in

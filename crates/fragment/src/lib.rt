@@ -2,12 +2,12 @@
 #![tactic(auto)]
 
 ghost use Rattle.std.specs.Prelude.{◌≡◌};
-ghost use Rattle.bits.specs.Read.{Place, Room};
+ghost use Rattle.bits.specs.Read.{Room};
 ghost use Rattle.fragment.specs.Fragment.{fragment_at};
 ghost use Rattle.fragment.specs.Inner.{lists_at, around_at, centre_of, with_at, without_at};
 
 use bit_reader::enough;
-use bits::{read_u, signed_of, value_at};
+use bits::{Cursor, read_u, signed_of};
 use format::{Fault, Found, Refusal};
 use parts::{Part, read_part};
 use systems::read_systems;
@@ -57,15 +57,14 @@ struct Lists {
 }
 
 // Reads the three lists; each is tested once, as a whole, behind its count, and then each system by its clock.
-fn read_lists(s: &[u8], at: u16) -> Result<Found<Lists>, Refusal>
-    requires { Place s.now at }
-    ensures { result ≡ lists_at s.now at }
+fn read_lists(from: Cursor<'_>) -> Result<Found<Lists>, Refusal>
+    ensures { result ≡ lists_at from.entry.body.now from.entry.at }
 {
-    let ids = read_part(s, at, Fault::IdsCut, 32)?;
-    let reserved_new = read_u(s, ids.next, 6)?;
-    let new = read_systems(s, reserved_new.next, Fault::NewSystemsCut)?;
-    let reserved_old = read_u(s, new.next, 6)?;
-    let old = read_systems(s, reserved_old.next, Fault::ObsolescentSystemsCut)?;
+    let ids = read_part(from, Fault::IdsCut, 32)?;
+    let reserved_new = read_u(from.to(ids.next), 6)?;
+    let new = read_systems(from.to(reserved_new.next), Fault::NewSystemsCut)?;
+    let reserved_old = read_u(from.to(new.next), 6)?;
+    let old = read_systems(from.to(reserved_old.next), Fault::ObsolescentSystemsCut)?;
     Ok(Found {
         value: Lists {
             ids: ids.value,
@@ -79,28 +78,27 @@ fn read_lists(s: &[u8], at: u16) -> Result<Found<Lists>, Refusal>
 }
 
 // The centre at a place where all of it is there.
-fn centre_at(s: &[u8], at: u16) -> CellCentre
-    requires { Room s.now at 76 }
-    ensures { result ≡ centre_of s.now at }
+fn centre_at(from: Cursor<'_>) -> CellCentre
+    requires { Room from.body.now from.at 76 }
+    ensures { result ≡ centre_of from.entry.body.now from.entry.at }
 {
-    let latitude = value_at(s, at + 4, 18);
-    let longitude = value_at(s, at + 27, 19);
+    let latitude = from.value(4, 18);
+    let longitude = from.value(27, 19);
     CellCentre {
         centre_latitude: signed_of(latitude, 18) as i32,
         centre_longitude: signed_of(longitude, 19) as i32,
-        max_distance: value_at(s, at + 46, 24) as u32,
-        reserved_zero_future_use_4: value_at(s, at, 4) as u8,
-        reserved_zero_future_use_5: value_at(s, at + 22, 5) as u8,
-        reserved_zero_future_use_6: value_at(s, at + 70, 6) as u8,
+        max_distance: from.value(46, 24) as u32,
+        reserved_zero_future_use_4: from.value(0, 4) as u8,
+        reserved_zero_future_use_5: from.value(22, 5) as u8,
+        reserved_zero_future_use_6: from.value(70, 6) as u8,
     }
 }
 
 // A fragment from what stands before its lists, with the lists at a place.
-fn around_lists(s: &[u8], at: u16, front: Front) -> Result<Found<CellFragment>, Refusal>
-    requires { Place s.now at }
-    ensures { result ≡ around_at s.now front at }
+fn around_lists(from: Cursor<'_>, front: Front) -> Result<Found<CellFragment>, Refusal>
+    ensures { result ≡ around_at from.entry.body.now front from.entry.at }
 {
-    let lists = read_lists(s, at)?;
+    let lists = read_lists(from)?;
     Ok(Found {
         value: CellFragment {
             cell_fragment_id: front.id,
@@ -119,27 +117,25 @@ fn around_lists(s: &[u8], at: u16, front: Front) -> Result<Found<CellFragment>, 
 }
 
 // The rest of a fragment with a centre, behind its id and flags: the centre is tested once, as a whole.
-fn with_centre(s: &[u8], at: u16, id: u32, last: bool) -> Result<Found<CellFragment>, Refusal>
-    requires { Place s.now at }
-    ensures { result ≡ with_at s.now id last at }
+fn with_centre(from: Cursor<'_>, id: u32, last: bool) -> Result<Found<CellFragment>, Refusal>
+    ensures { result ≡ with_at from.entry.body.now id last from.entry.at }
 {
-    enough(s, at, Fault::CentreCut, 76)?;
+    enough(from, Fault::CentreCut, 76)?;
     let front = Front {
         id,
         first: true,
         last,
-        centre: Some(centre_at(s, at)),
+        centre: Some(centre_at(from)),
         reserved: 0,
     };
-    around_lists(s, at + 76, front)
+    around_lists(from.to(from.at + 76), front)
 }
 
 // And of one without a centre.
-fn without_centre(s: &[u8], at: u16, id: u32, last: bool) -> Result<Found<CellFragment>, Refusal>
-    requires { Place s.now at }
-    ensures { result ≡ without_at s.now id last at }
+fn without_centre(from: Cursor<'_>, id: u32, last: bool) -> Result<Found<CellFragment>, Refusal>
+    ensures { result ≡ without_at from.entry.body.now id last from.entry.at }
 {
-    let reserved = read_u(s, at, 4)?;
+    let reserved = read_u(from, 4)?;
     let front = Front {
         id,
         first: false,
@@ -147,20 +143,20 @@ fn without_centre(s: &[u8], at: u16, id: u32, last: bool) -> Result<Found<CellFr
         centre: None,
         reserved: reserved.value as u8,
     };
-    around_lists(s, reserved.next, front)
+    around_lists(from.to(reserved.next), front)
 }
 
 // Reads the fragment at a place.
-pub fn read_fragment(s: &[u8], at: u16) -> Result<Found<CellFragment>, Refusal>
-    requires { Place s.now at }
-    ensures { result ≡ fragment_at s.now at }
+pub fn read_fragment(from: Cursor<'_>) -> Result<Found<CellFragment>, Refusal>
+    ensures { result ≡ fragment_at from.entry.body.now from.entry.at }
 {
-    let id = read_u(s, at, 32)?;
-    let first = read_u(s, id.next, 1)?;
-    let last = read_u(s, first.next, 1)?;
+    let id = read_u(from, 32)?;
+    let first = read_u(from.to(id.next), 1)?;
+    let last = read_u(from.to(first.next), 1)?;
+    let rest = from.to(last.next);
     if first.value == 1 {
-        with_centre(s, last.next, id.value as u32, last.value == 1)
+        with_centre(rest, id.value as u32, last.value == 1)
     } else {
-        without_centre(s, last.next, id.value as u32, last.value == 1)
+        without_centre(rest, id.value as u32, last.value == 1)
     }
 }

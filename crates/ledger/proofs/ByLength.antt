@@ -12,19 +12,19 @@ use Rattle.ledger_reader.specs.Measured.{measured}
 -- a size, for the writers: the refusal in it, or what the length gives
 pub size_no : {f : Refusal} (id room : ℕ) (p : Parse (List ℕ)) → Err f ≡ size_in p → Err f ≡ answer id room p
 unfolding size_in answer
-size_no id room (got xs rest) e = let o : ◌≡◌ {A = ℕ} 0 1 = cc in absurd (omega arith)
+size_no id room (got xs rest) e = absurd cc
 size_no {f} id room (refused x y w) e = let g : f ≡ refuse x y w = cc in ap Err g
 
 pub size_yes : {n : ℕ} {r : Result Output Refusal} (id room : ℕ) (p : Parse (List ℕ)) → Ok n ≡ size_in p
     → Fitted id n room r → r ≡ answer id room p
 unfolding size_in
 size_yes id room (got xs rest) e fit = fit.is xs rest cc
-size_yes id room (refused x y w) e fit = let o : ◌≡◌ {A = ℕ} 0 1 = cc in absurd (omega arith)
+size_yes id room (refused x y w) e fit = absurd cc
 
 -- a measure, for the reader, and for the plain and the kept body
 pub measure_no : {f : Refusal} (id room : ℕ) (p : Parse (List ℕ)) → Err f ≡ measured id p → Err f ≡ answer id room p
 unfolding answer
-measure_no id room (got xs rest) e = let o : ◌≡◌ {A = ℕ} 0 1 = cc in absurd (omega arith)
+measure_no id room (got xs rest) e = absurd cc
 measure_no {f} id room (refused x y w) e = let g : f ≡ refuse x y w = cc in ap Err g
 
 pub measure_yes : {o : Output} {r : Result Output Refusal} (id room : ℕ) (p : Parse (List ℕ)) → Ok o ≡ measured id p
@@ -33,4 +33,4 @@ measure_yes {o} id room (got xs rest) e fit =
     let j : o.table_id ≡ id = cc in
     let k : o.length ≡ length xs = cc in
     rw j at (fit.is xs rest k)
-measure_yes id room (refused x y w) e fit = let o : ◌≡◌ {A = ℕ} 0 1 = cc in absurd (omega arith)
+measure_yes id room (refused x y w) e fit = absurd cc

@@ -1,6 +1,6 @@
 -- The fields of a table under each layout, and nothing over behind them.
 -- Assumes nothing.
-use Prim.Native.Nat.{ℕ, zero, suc, ◌-◌, ◌*◌, ◌≤◌, ◌<◌}
+use Prim.Native.Nat.{ℕ, ◌-◌, ◌*◌, ◌≤◌, ◌<◌}
 use mathlib.Core.Path.{◌≡◌, refl, sym, ap, ◌∙◌}
 use mathlib.Core.Bool.{Bool, true, false, cond}
 use mathlib.Core.List.{List, []}
@@ -16,56 +16,27 @@ use Rattle.format.specs.Syntax.{Syntax, end, Parse, got, refused, and_then}
 use Rattle.format.specs.declared.Edition.{Edition}
 use Rattle.format.specs.Body.{laid}
 use Rattle.format.specs.Ledger.{read_ledger, grant}
-use Rattle.format.specs.Whole.{Layout, sole, many, opaque, layout, one, list, as_it_is, laids, ended, content_as}
+use Rattle.format.specs.Whole.{Layout, sole, many, opaque, one, list, as_it_is, laids, ended, content_as}
 use Rattle.format.specs.declared.Refusal.{Refusal}
 use Rattle.format.specs.declared.Fault.TheVariants.{LedgerMisfit}
 use Rattle.format.proofs.DigitLaws.{length_bits}
-use Rattle.format.proofs.Good.{Fine}
-use Rattle.format.proofs.TableLaws.{fine_layout}
 use Rattle.bits.proofs.Splices.{splice_splice, splice_nil}
 use Rattle.bits.proofs.Groups.{bits_splice}
 use Rattle.runs.specs.Stored.{stored}
-use Rattle.runs.specs.declared.Step.{Step}
+use Rattle.read_runs.specs.declared.step.Step.{Step}
 use Rattle.runs.proofs.Stores.{stored_fits}
 use Rattle.read_runs.specs.Came.{Way, way_of, Halted}
 use Rattle.read_runs.proofs.CameLaws.{laid_none}
 use Rattle.read_plans.specs.Taken.{Took, Taken}
-use Rattle.ledger_reader.specs.Held.{Listed, entry_of, listing, fields_as, bits_in, Held, Refuses, Holds}
-
--- ---- layouts by their ids
-
-pub opaque_from : (id : ℕ) → 4 < id → layout id ≡ opaque
-opaque_from zero h = absurd (omega arith)
-opaque_from (suc zero) h = absurd (omega arith)
-opaque_from (suc (suc zero)) h = absurd (omega arith)
-opaque_from (suc (suc (suc zero))) h = absurd (omega arith)
-opaque_from (suc (suc (suc (suc zero)))) h = absurd (omega arith)
-opaque_from (suc (suc (suc (suc (suc n))))) h = refl
-
--- the entries of a list are as the laws ask for
-pub fine_entry : (id : ℕ) → Listed id → Fine false 0 0 (entry_of id)
-fine_entry zero h = (fine_layout 0).1
-fine_entry (suc zero) h = (fine_layout 1).1
-fine_entry (suc (suc zero)) h = absurd (h.several refl)
-fine_entry (suc (suc (suc zero))) h = (fine_layout 3).1
-fine_entry (suc (suc (suc (suc zero)))) h = (fine_layout 4).1
-fine_entry (suc (suc (suc (suc (suc n))))) h = absurd (omega (arith, h.known))
-
--- a list without a head
-pub headless : (id : ℕ) → id < 4 → (id ≡ 2 → ⊥) → (m : ℕ) × (layout id ≡ many end m (entry_of id))
-headless zero h k = (32, refl)
-headless (suc zero) h k = (34, refl)
-headless (suc (suc zero)) h k = absurd (k refl)
-headless (suc (suc (suc zero))) h k = (48, refl)
-headless (suc (suc (suc (suc n)))) h k = absurd (omega arith)
+use Rattle.ledger_reader.specs.Held.{listing, fields_as, bits_in, Held, Refuses, Holds}
 
 -- ---- fields
 
 module _ {ed : Edition} {l out out' : List ℕ} where
   -- one set of fields
-  pub sole_holds : {s : Syntax} {r : Result (Step ℕ) Refusal} → Taken (way_of ed true) l s 4 0 out out' r → Holds (bits_in ed) l (fields_as ed (length l) (sole s) (drop 4 l)) 0 out out' r
+  pub sole_holds : {s : Syntax} {r : Result Step Refusal} → Taken (way_of ed true) l s 4 0 out out' r → Holds (bits_in ed) l (fields_as ed (length l) (sole s) (drop 4 l)) 0 out out' r
   sole_holds {r = Ok j} x =
-      let w = x.to in
+      let w = x.to.took in
       record { to = record { what = one w.ts; reads = rw w.reads; size = w.size; bits = w.bits; within = w.within } }
   sole_holds {r = Err f} x = record { to = record { reads = rw x.to.reads } }
 
@@ -114,7 +85,7 @@ module _ (m : ℕ) (s : Syntax) {ed : Edition} {l : List ℕ} {h : Syntax} where
     after_head = rw w.reads (grant_then (length l) (drop place l) _ (λ es over. got (list w.ts es) over))
 
     -- the head's fields and the entries behind them
-    pub list_holds : {out' : List ℕ} {r : Result (Step ℕ) Refusal} → Holds (laids ed) l (listing ed (length l) s (drop place l)) at out₁ out' r
+    pub list_holds : {out' : List ℕ} {r : Result Step Refusal} → Holds (laids ed) l (listing ed (length l) s (drop place l)) at out₁ out' r
         → Holds (bits_in ed) l (fields_as ed (length l) (many h m s) (drop 4 l)) 0 out out' r
     list_holds {r = Err f} x = record { to = record { reads = after_head ∙ rw x.to.reads } }
     list_holds {out'} {r = Ok j} x =

@@ -24,7 +24,7 @@ use Rattle.format.proofs.TableLaws.{FineLayout, fine_layout, fine_before_layout,
 use Rattle.format.proofs.Demand.{ledger_all, ledger_again, read_accepted, accepted_good, ledger_length}
 use Rattle.bits.proofs.Groups.{bits_splice}
 use Rattle.bits.proofs.Splices.{length_splice}
-use Rattle.runs.specs.declared.Step.{Step}
+use Rattle.read_runs.specs.declared.step.Step.{Step}
 use Rattle.ledger_reader.specs.Held.{Framed, bits_in, Holds}
 use Rattle.ledger_reader.specs.Measured.{measured, measure_of}
 use Rattle.ledger_reader.proofs.Measuring.{body_bits}
@@ -137,7 +137,7 @@ module _ {l : List ℕ} {o : Output} (x : Sized l o) (out : List ℕ) where
       go i n w false h e = let o : ◌≡◌ {A = ℕ} 0 1 = cc in absurd (omega arith)
 
   -- the second time, the same table is laid
-  again : {j : Step ℕ} (out' : List ℕ) → content_as (edition_of l) (length l) (layout (id_of l)) (drop 4 l) ≡ got x.table []
+  again : {j : Step} (out' : List ℕ) → content_as (edition_of l) (length l) (layout (id_of l)) (drop 4 l) ≡ got x.table []
       → bits_of (body_of (edition_of l) x.table) ≡ bits_in (edition_of l) x.table → o.length ≤ length out
       → Holds (bits_in (edition_of l)) l (content_as (edition_of l) (length l) (layout (id_of l)) (drop 4 l)) 0 out out' (Ok j)
       → bits_of out' ≡ splice (bits_of out) 0 (bits_of (body_of (edition_of l) x.table))
@@ -149,10 +149,10 @@ module _ {l : List ℕ} {o : Output} (x : Sized l o) (out : List ℕ) where
       z.bits (omega (arith, z.size, ap length f, length_bits (body_of (edition_of l) x.table), x.size)) ∙ ap (splice (bits_of out) 0) f
 
   -- what is laid, in the words that the ledger itself has for its edition and its table id
-  abbrev Laying : Edition → List ℕ → Result (Step ℕ) Refusal → Type 0
+  abbrev Laying : Edition → List ℕ → Result Step Refusal → Type 0
   Laying ed out' r = Holds (bits_in ed) l (content_as ed (length l) (layout o.table_id) (drop 4 l)) 0 out out' r
 
-  by_ledger : {ed : Edition} {out' : List ℕ} {r : Result (Step ℕ) Refusal} → ed ≡ edition_of l → Laying ed out' r
+  by_ledger : {ed : Edition} {out' : List ℕ} {r : Result Step Refusal} → ed ≡ edition_of l → Laying ed out' r
       → Holds (bits_in (edition_of l)) l (content_as (edition_of l) (length l) (layout (id_of l)) (drop 4 l)) 0 out out' r
   by_ledger {out' = out'} {r} e y =
       let z : Laying (edition_of l) out' r = subst (λ (ed : Edition). Laying ed out' r) e y in
@@ -162,7 +162,7 @@ module _ {l : List ℕ} {o : Output} (x : Sized l o) (out : List ℕ) where
   pub says_never : {ed : Edition} {out' : List ℕ} {g : Refusal} → Below 256 l → ed ≡ edition_of l → Laying ed out' (Err g) → ⊥
   says_never b e y = got_not_refused (sym (content x b) ∙ (by_ledger e y).to.reads)
 
-  pub says_yes : {ed : Edition} {a : Output} {out' : List ℕ} {j : Step ℕ} → Below 256 l → Below 256 out → Below 256 out' → length out' ≡ length out
+  pub says_yes : {ed : Edition} {a : Output} {out' : List ℕ} {j : Step} → Below 256 l → Below 256 out → Below 256 out' → length out' ≡ length out
       → Fitted o.table_id o.length (length out) (Ok a) → ed ≡ edition_of l → Laying ed out' (Ok j) → Says l out (Ok a) out'
   unfolding restored read_left left
   says_yes {out' = out'} b ho ho' k fit e y =

@@ -3,99 +3,117 @@
 // The same steps measure: with an empty buffer nothing is stored, and the answer is the same.
 #![tactic(auto)]
 
-ghost use Rattle.std.specs.Prelude.{◌≡◌, ◌||◌, ◌+◌, ◌%◌, ◌≤◌, eqb, length, drop};
+ghost use Rattle.std.specs.Prelude.{◌≡◌, ◌||◌, ◌+◌, ◌*◌, ◌%◌, ◌≤◌, eqb, length, drop};
 ghost use Rattle.format.specs.Whole.{layout, laids, counted, content_as};
+ghost use Rattle.format.specs.Lists.{list_id, entry_syntax};
 ghost use Rattle.format.specs.Calls.{read_answer, read_left};
 ghost use Rattle.runs.specs.Stored.{stored};
-ghost use Rattle.read_runs.specs.Came.{LedgerPlaced, way_of};
-ghost use Rattle.read_plans.specs.Taken.{Taken};
-ghost use Rattle.ledger_reader.specs.Held.{entry_of, listing, fields_as, bits_in, Listed, Framed, Holds};
+ghost use Rattle.read_runs.specs.Came.{way_of};
+ghost use Rattle.read_plans.specs.Taken.{TakenFrom};
+ghost use Rattle.ledger_reader.specs.Held.{listing, fields_as, bits_in, Framed, Holds, HoldsFrom};
 ghost use Rattle.ledger_reader.specs.Measured.{measure_of, Measures};
 
 use bits::get_be;
-use format::{Edition, Fault, Output, Refusal, fitted};
+use format::{Edition, Fault, ListTable, Output, Refusal, fitted};
 use read_ephemeris::{read_header, read_position3};
 use read_plans::read_plan;
-use read_runs::{byte_of, refused_at};
+use read_runs::{Step, byte_of, refused_at};
 use read_tables::{read_association, read_fragment, read_position};
-use runs::{Step, copy_bytes};
+use runs::copy_bytes;
 
-// One entry of a list, laid from the buffer's start on, in an edition; last: none follows it.
-fn read_entry(
+// One entry of a list, from a byte on (`at_value`; see `Step`), in an edition; last: none follows it. A plan asks for a
+// byte of the ledger to spare (`ahead`), which not every step has.
+fn read_entry<'a>(
+    from: Step<'a>,
     edition: Edition,
     last: bool,
-    table_id: u8,
-    ledger: &[u8],
-    place: usize,
+    table: ListTable,
     out: &mut [u8],
-) -> Result<Step<usize>, Refusal>
-    requires ledger_placed { LedgerPlaced ledger.now place 8 }
-    requires listed { Listed table_id }
-    ensures { Taken (way_of edition last) ledger.now (entry_of table_id) place 0 out.old out.new result }
+) -> Result<Step<'a>, Refusal>
+    requires ahead { from.at + 8 ≤ 8 * from.place }
+    requires at_value { from.at % 8 ≡ 0 }
+    ensures { TakenFrom (way_of edition last) from.entry (entry_syntax (list_id table)) out.old out.new result }
 {
-    match table_id {
-        0 => read_position(ledger, place, out, 0),
-        1 => read_fragment(ledger, place, out, 0),
-        3 => read_plan(ledger, place, edition, last, out, 0),
-        _ => read_position3(ledger, place, out, 0),
+    match table {
+        ListTable::PositionV2 => read_position(from, out),
+        ListTable::CellFragment => read_fragment(from, out),
+        ListTable::BeamhoppingTimePlan => read_plan(from, edition, last, out),
+        ListTable::PositionV3 => read_position3(from, out),
     }
 }
 
-// So many entries from a place on, up to the first that is refused. Each is laid in the part of the buffer that starts
-// where the last one ended.
-fn read_entries(
+// The next entry, laid from the start on of the part of the buffer that starts where the last one ended.
+fn read_next<'a>(
+    from: Step<'a>,
     edition: Edition,
-    table_id: u8,
-    ledger: &[u8],
-    place: usize,
+    last: bool,
+    table: ListTable,
+    out: &mut [u8],
+) -> Result<Step<'a>, Refusal>
+    requires ahead { from.at + 8 ≤ 8 * from.place }
+    requires at_value { from.at % 8 ≡ 0 }
+    ensures { TakenFrom (way_of edition last) from.entry (entry_syntax (list_id table)) out.old out.new result }
+{
+    let start = byte_of(from.at, out.len());
+    let first = Step {
+        ledger: from.ledger,
+        place: from.place,
+        at: 0,
+        last: 0,
+    };
+    let entry = read_entry(first, edition, last, table, &mut out[start..])?;
+    Ok(Step {
+        ledger: entry.ledger,
+        place: entry.place,
+        at: from.at + entry.at,
+        last: entry.last,
+    })
+}
+
+// So many entries, up to the first that is refused. The index tells the last one.
+fn read_entries<'a>(
+    from: Step<'a>,
+    edition: Edition,
+    table: ListTable,
     count: u64,
     out: &mut [u8],
-    at: usize,
-) -> Result<Step<usize>, Refusal>
-    requires ledger_placed { LedgerPlaced ledger.now place (at + 8) }
-    requires at_value { at % 8 ≡ 0 }
-    requires listed { Listed table_id }
-    ensures { Holds (laids edition) ledger.now (counted edition (length ledger.now) (entry_of table_id) count (drop place ledger.now)) at out.old out.new result }
+) -> Result<Step<'a>, Refusal>
+    requires ahead { from.at + 8 ≤ 8 * from.place }
+    requires at_value { from.at % 8 ≡ 0 }
+    ensures { HoldsFrom edition (λ n. counted edition n (entry_syntax (list_id table)) count)
+        from.entry out.old out.new result }
 {
-    let mut step = Step { at, place, last: 0 };
+    let mut step = from;
     for i in 0..count {
-        let from = byte_of(step.at, out.len());
         let last = i + 1 == count;
-        let entry = read_entry(
-            edition,
-            last,
-            table_id,
-            ledger,
-            step.place,
-            &mut out[from..],
-        )?;
-        step = Step {
-            at: step.at + entry.at,
-            ..entry
-        };
+        step = read_next(step, edition, last, table, out)?;
     }
     Ok(step)
 }
 
 // The entries behind their 2-byte count.
-fn read_list(
+fn read_list<'a>(
+    from: Step<'a>,
     edition: Edition,
-    table_id: u8,
-    ledger: &[u8],
-    place: usize,
+    table: ListTable,
     out: &mut [u8],
-    at: usize,
-) -> Result<Step<usize>, Refusal>
-    requires ledger_placed { LedgerPlaced ledger.now place (at + 8) }
-    requires at_value { at % 8 ≡ 0 }
-    requires listed { Listed table_id }
-    ensures { Holds (laids edition) ledger.now (listing edition (length ledger.now) (entry_of table_id) (drop place ledger.now)) at out.old out.new result }
+) -> Result<Step<'a>, Refusal>
+    requires ahead { from.at + 8 ≤ 8 * from.place }
+    requires at_value { from.at % 8 ≡ 0 }
+    ensures { HoldsFrom edition (λ n. listing edition n (entry_syntax (list_id table)))
+        from.entry out.old out.new result }
 {
-    if ledger.len() - place < 2 {
-        return Err(refused_at(Fault::LedgerMisfit, place));
+    if from.ledger.len() - from.place < 2 {
+        return Err(refused_at(Fault::LedgerMisfit, from.place));
     }
-    let count = get_be(ledger, place, 2);
-    read_entries(edition, table_id, ledger, place + 2, count, out, at)
+    let count = get_be(from.ledger, from.place, 2);
+    let first = Step {
+        ledger: from.ledger,
+        place: from.place + 2,
+        at: from.at,
+        last: count,
+    };
+    read_entries(first, edition, table, count, out)
 }
 
 // Ids 5 to 255: the bytes behind the table id are the body. They are stored where there is room for all of them,
@@ -107,28 +125,40 @@ fn copy_opaque(ledger: &[u8], out: &mut [u8])
     copy_bytes(&ledger[4..], out);
 }
 
-// A table's fields, by its id; bytes may be over.
-fn read_fields(
+// A table's fields, by its id; bytes may be over. Of the tables that are no list, id 2 alone has fields.
+fn read_fields<'a>(
     edition: Edition,
     table_id: u8,
-    ledger: &[u8],
+    ledger: &'a [u8],
     out: &mut [u8],
-) -> Result<Step<usize>, Refusal>
+) -> Result<Step<'a>, Refusal>
     requires { Framed ledger.now }
-    ensures { Holds (bits_in edition) ledger.now (fields_as edition (length ledger.now) (layout table_id) (drop 4 ledger.now)) 0 out.old out.new result }
+    ensures { Holds (bits_in edition) ledger.now (fields_as edition (length ledger.now) (layout table_id) (drop 4 ledger.now))
+        0 out.old out.new result }
 {
-    match table_id {
-        2 => read_association(ledger, 4, out, 0),
-        4 => {
-            let header = read_header(ledger, 4, out, 0)?;
-            read_list(edition, table_id, ledger, header.place, out, header.at)
-        }
-        0..=3 => read_list(edition, table_id, ledger, 4, out, 0),
-        _ => {
+    let first = Step {
+        ledger,
+        place: 4,
+        at: 0,
+        last: 0,
+    };
+    match ListTable::of(table_id) {
+        Some(table) => match table {
+            ListTable::PositionV2 | ListTable::CellFragment | ListTable::BeamhoppingTimePlan => {
+                read_list(first, edition, table, out)
+            }
+            ListTable::PositionV3 => {
+                let header = read_header(first, out)?;
+                read_list(header, edition, table, out)
+            }
+        },
+        None if table_id == 2 => read_association(first, out),
+        None => {
             copy_opaque(ledger, out);
             Ok(Step {
-                at: 8 * (ledger.len() - 4),
+                ledger,
                 place: ledger.len(),
+                at: 8 * (ledger.len() - 4),
                 last: 0,
             })
         }
@@ -136,14 +166,15 @@ fn read_fields(
 }
 
 // All that follows a ledger's table id: the fields, and nothing over.
-fn read_content(
+fn read_content<'a>(
     edition: Edition,
     table_id: u8,
-    ledger: &[u8],
+    ledger: &'a [u8],
     out: &mut [u8],
-) -> Result<Step<usize>, Refusal>
+) -> Result<Step<'a>, Refusal>
     requires { Framed ledger.now }
-    ensures { Holds (bits_in edition) ledger.now (content_as edition (length ledger.now) (layout table_id) (drop 4 ledger.now)) 0 out.old out.new result }
+    ensures { Holds (bits_in edition) ledger.now (content_as edition (length ledger.now) (layout table_id) (drop 4 ledger.now))
+        0 out.old out.new result }
 {
     let fields = read_fields(edition, table_id, ledger, out)?;
     if fields.place < ledger.len() {

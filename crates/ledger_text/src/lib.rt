@@ -49,7 +49,7 @@ fn push_number(line: &mut ArrayVec<u8, REFUSAL_MOST>, n: usize)
 }
 
 // `R`, the refusal's number, need and have behind a space each, and a newline, stored as a line; 65 bytes hold
-// every such line.
+// every such line. The number is any byte's, as the text spells it.
 pub fn refusal_line(number: u8, need: usize, have: usize, out: &mut [u8]) -> Option<usize>
     ensures { Stored (refusal_line number need have) out.old out.new result }
 {

@@ -16,13 +16,17 @@ use Rattle.format.specs.Syntax.{Syntax, end, Field, Parse, got, refused, and_the
 use Rattle.format.specs.declared.Edition.{Edition}
 use Rattle.format.specs.Tables.{association, header}
 use Rattle.format.specs.Ledger.{ledger}
-use Rattle.format.specs.Whole.{many, opaque, layout, Table, one, list, as_it_is, read_as, body_read_as, body_read, content_of, version, ledger_of}
-use Rattle.format.specs.Calls.{answer, left, filed, done, write_answer, write_left}
+use Rattle.format.specs.Whole.{opaque, layout, Table, one, list, as_it_is, read_as, body_read_as, body_read, content_of, version, ledger_of}
+use Rattle.format.specs.Lists.{list_id, head_syntax}
+use Rattle.format.specs.declared.tables.ListTable.{ListTable}
+use Rattle.format.proofs.NamedLaws.{layout_list}
+use Rattle.format.specs.Calls.{answer, left, filed, Fitted, write_answer, write_left}
+use Rattle.format.proofs.CallLaws.{answer_done, answer_refused}
 use Rattle.format.specs.declared.Edition.TheVariants.{First, Second}
 use Rattle.format.specs.declared.Output.{Output}
 use Rattle.format.specs.declared.Refusal.{Refusal}
 use Rattle.format.specs.declared.Fault.{Fault}
-use Rattle.format.specs.declared.Fault.TheVariants.{BodyTooLong, BufferTooShort}
+use Rattle.format.specs.declared.Fault.TheVariants.{BodyTooLong}
 use Rattle.format.proofs.DigitLaws.{length_digits}
 use Rattle.format.proofs.ParseLaws.{cond_got, got_not_refused}
 use Rattle.format.proofs.FineTables.{fine_header, least_header}
@@ -31,17 +35,17 @@ use Rattle.format.proofs.WalkLaws as walk-laws
 use Rattle.format.proofs.TableLaws.{read_all}
 use Rattle.bits.proofs.Splices.{splice_splice, part_splice}
 use Rattle.runs.specs.Stored.{stored}
-use Rattle.runs.specs.declared.Step.{Step}
+use Rattle.write_runs.specs.declared.step.Step.{Step}
 use Rattle.runs.proofs.Stores.{stored_fits}
 use Rattle.write_runs.specs.Went.{outside, Went, Ran}
-use Rattle.ledger_writer.specs.Listed.{entry_of, least_of, listing, Listed}
+use Rattle.ledger_writer.specs.Listed.{listing, Listed}
 use Rattle.ledger_writer.specs.Written.{Filled, Content, size_in, size_answer}
 use Rattle.ledger_writer.proofs.Listing.{went_got}
 
 -- ---- the content, by table id
 
 -- ids 5 and up: the body as it is
-layout_opaque : (id : ℕ) → 4 < id → layout id ≡ opaque
+pub layout_opaque : (id : ℕ) → 4 < id → layout id ≡ opaque
 layout_opaque zero h = absurd (omega arith)
 layout_opaque (suc zero) h = absurd (omega arith)
 layout_opaque (suc (suc zero)) h = absurd (omega arith)
@@ -49,15 +53,15 @@ layout_opaque (suc (suc (suc zero))) h = absurd (omega arith)
 layout_opaque (suc (suc (suc (suc zero)))) h = absurd (omega arith)
 layout_opaque (suc (suc (suc (suc (suc n))))) h = refl
 
-pub as_is : {ed : Edition} {id : ℕ} {body out out' : List ℕ} → 4 < id → out' ≡ stored out 0 body → Filled ed body id out (length body) out'
+pub as_is : {ed : Edition} {id : ℕ} {body out out' : List ℕ} → layout id ≡ opaque → out' ≡ stored out 0 body → Filled ed body id out (length body) out'
 unfolding read_as content_of
-as_is {ed} {id} {body} {out} h b = record { t = as_it_is body; reads = rw (layout_opaque id h); size = refl; bytes = λ r. b ∙ stored_fits out 0 body (omega arith); small = omega arith }
+as_is {ed} {id} {body} {out} h b = record { t = as_it_is body; reads = rw h; size = refl; bytes = λ r. b ∙ stored_fits out 0 body (omega arith); small = omega arith }
 
 -- id 2: one set of fields
-pub once : {ed : Edition} {id : ℕ} {body out out' : List ℕ} {r : Result (Step ℕ) Refusal} → id ≡ 2 → Ran body (outside ed) association 0 0 out (λ _. end) out' r → Content ed body id out out' r
+pub once : {ed : Edition} {id : ℕ} {body out out' : List ℕ} {r : Result Step Refusal} → id ≡ 2 → Ran body (outside ed) association 0 0 out (λ _. end) out' r → Content ed body id out out' r
 unfolding read_as content_of
 once {body = body} {r = Ok v} q x =
-    let w = x.to in
+    let w = x.to.1 in
     rw q (record {
       to = record {
         t = one w.ts;
@@ -69,40 +73,37 @@ once {body = body} {r = Ok v} q x =
     })
 once {r = Err f} q x = rw q (record { to = record { reads = ap (λ (p : Parse (List Field)). and_then p (λ ts rest. got (one ts) [])) x.to.reads } })
 
--- ids 0, 1, 3 and 4: a head, and entries behind it
-module _ {ed : Edition} {id : ℕ} {body : List ℕ} {head : Syntax} (is : layout id ≡ many head (least_of id) (entry_of id)) where
-  pub listed : {out out₁ out₂ : List ℕ} {a p : ℕ} {r : Result (Step ℕ) Refusal} → Went body (outside ed) head 0 0 out end a p out₁ → Listed ed body id a p out₁ out₂ r → Content ed body id out out₂ r
-  unfolding read_as content_of
-  listed {out} {out₁} {p = p} {r = Ok v} w x =
-      let y = x.to in
-      let ll = length-append (ledger ed w.ts) (listing ed y.es) in
-      let z = w.size in
-      let z₁ = y.size in
-      record {
-        to = record {
-          t = list w.ts y.es;
-          reads = rw (is, went_got w, y.reads);
-          size = omega arith;
-          bytes = λ h. y.bytes (omega (arith, w.long)) ∙ ap (λ (m : List ℕ). splice m p (listing ed y.es)) (w.bytes (omega arith))
-              ∙ splice_splice out 0 (ledger ed w.ts) (listing ed y.es) p w.size (omega arith);
-          small = y.behind;
-        };
-      }
-  listed {r = Err f} w x = record { to = record { reads = rw (is, went_got w, x.to.reads) } }
+-- a list: a head, and entries behind it
+module _ (table : ListTable) where
+  abbrev id : ℕ
+  id = list_id table
 
-  pub unheaded : {out out₂ : List ℕ} {f : Refusal} → Ran body (outside ed) head 0 0 out (λ _. end) out₂ (Err f) → Content ed body id out out₂ (Err f)
-  unfolding read_as
-  unheaded x = record { to = record { reads = rw (is, x.to.reads) } }
+  abbrev head : Syntax
+  head = head_syntax id
 
-pub layout_list : (id : ℕ) → id < 4 → (id ≡ 2 → ⊥) → layout id ≡ many end (least_of id) (entry_of id)
-layout_list zero h n = refl
-layout_list (suc zero) h n = refl
-layout_list (suc (suc zero)) h n = absurd (n refl)
-layout_list (suc (suc (suc zero))) h n = refl
-layout_list (suc (suc (suc (suc n)))) h _ = absurd (omega arith)
+  module _ {ed : Edition} {body : List ℕ} where
+    pub listed : {out out₁ out₂ : List ℕ} {a p : ℕ} {r : Result Step Refusal} → Went body (outside ed) head 0 0 out end a p out₁ → Listed ed body id a p out₁ out₂ r → Content ed body id out out₂ r
+    unfolding read_as content_of
+    listed {out} {out₁} {p = p} {r = Ok v} w x =
+        let y = x.to in
+        let ll = length-append (ledger ed w.ts) (listing ed y.es) in
+        let z = w.size in
+        let z₁ = y.size in
+        record {
+          to = record {
+            t = list w.ts y.es;
+            reads = rw (layout_list table, went_got w, y.reads);
+            size = omega arith;
+            bytes = λ h. y.bytes (omega (arith, w.long)) ∙ ap (λ (m : List ℕ). splice m p (listing ed y.es)) (w.bytes (omega arith))
+                ∙ splice_splice out 0 (ledger ed w.ts) (listing ed y.es) p w.size (omega arith);
+            small = y.behind;
+          };
+        }
+    listed {r = Err f} w x = record { to = record { reads = rw (layout_list table, went_got w, x.to.reads) } }
 
-pub layout_headed : (id : ℕ) → id ≡ 4 → layout id ≡ many header (least_of id) (entry_of id)
-layout_headed id q = rw q
+    pub unheaded : {out out₂ : List ℕ} {f : Refusal} → Ran body (outside ed) head 0 0 out (λ _. end) out₂ (Err f) → Content ed body id out out₂ (Err f)
+    unfolding read_as
+    unheaded x = record { to = record { reads = rw (layout_list table, x.to.reads) } }
 
 -- the header ends on a byte
 pub header_ends : {ed : Edition} {body out out' : List ℕ} {a p : ℕ} → Went body (outside ed) header 0 0 out end a p out' → a % 8 ≡ 0
@@ -181,13 +182,25 @@ known {ed} {id} {body} {need} e = go (body_read id body) refl e
         let n : need ≡ length (ledger_of ed id t) = cc in
         record { t = t; short = h; reads = r; file = filed_got ed id body t h r; size = sym n; content = n ∙ length_ledger_of ed id t }
 
--- no room for it
-pub says_short : {ed : Edition} {id need : ℕ} {body out : List ℕ} → Known ed id body need → length out < need → Says ed id body out (Err (refuse BufferTooShort need (length out))) out
-unfolding write_answer write_left answer left
-says_short {need = need} {out = out} k h = (rw (k.file, k.size, lt-leb need (length out) h), rw (k.file, k.size, lt-leb need (length out) h))
+-- what `fitted` answers of it is the answer; where that is a refusal the buffer stays as it is, and else there is room
+module _ {ed : Edition} {id need : ℕ} {body : List ℕ} (out : List ℕ) (k : Known ed id body need) where
+  says : {r : Result Output Refusal} → Fitted id need (length out) r → r ≡ write_answer ed id body (length out)
+  unfolding write_answer
+  says f = f.is (ledger_of ed id k.t) [] (sym k.size) ∙ rw k.file
+
+  pub says_short : {f : Refusal} → Fitted id need (length out) (Err f) → Says ed id body out (Err f) out
+  unfolding write_answer write_left
+  says_short h = (says h, sym (answer_refused id out (filed ed id body) (sym (says h))))
+
+  pub room_for : {a : Output} → Fitted id need (length out) (Ok a) → (4 ≤ need) × (need ≤ length out)
+  room_for h =
+      let o = answer_done id (length out) (got (ledger_of ed id k.t) []) (sym (h.is (ledger_of ed id k.t) [] (sym k.size))) in
+      let e : got (ledger_of ed id k.t) [] ≡ got o.0 o.1 = o.2 in
+      let z : ledger_of ed id k.t ≡ o.0 = cc in
+      (omega (arith, k.content), omega (arith, o.3, o.4, k.size, ap length z))
 
 -- what a second going through the body leaves is the same content
-again : (ed : Edition) (body out out' : List ℕ) (id : ℕ) (t : Table) (r : Result (Step ℕ) Refusal) → read_as (layout id) body ≡ got t [] → Content ed body id out out' r → length (content_of ed t) ≤ length out
+again : (ed : Edition) (body out out' : List ℕ) (id : ℕ) (t : Table) (r : Result Step Refusal) → read_as (layout id) body ≡ got t [] → Content ed body id out out' r → length (content_of ed t) ≤ length out
     → out' ≡ splice out 0 (content_of ed t)
 again ed body out out' id t (Ok v) e x h =
     let y = x.to in
@@ -216,11 +229,12 @@ version_small First = omega arith
 version_small Second = omega arith
 
 -- room for it: the front, and the content behind it
-pub says_yes : {ed : Edition} {v id need : ℕ} {body m₁ m₂ m₃ part : List ℕ} {r : Result (Step ℕ) Refusal} (out : List ℕ) → v ≡ version ed → id < 256 → Known ed id body need → need ≤ length out
+pub says_yes : {ed : Edition} {v id need : ℕ} {body m₁ m₂ m₃ part : List ℕ} {r : Result Step Refusal} {a : Output} (out : List ℕ) → v ≡ version ed → id < 256 → (k : Known ed id body need) → Fitted id need (length out) (Ok a)
     → m₁ ≡ splice out 0 (digits 256 2 (need - 2)) → m₂ ≡ splice m₁ 2 (digits 256 1 v) → m₃ ≡ splice m₂ 3 (digits 256 1 id) → length m₃ ≡ length out
-    → Content ed body id (mid_of 4 (length m₃ - 4) m₃) part r → Says ed id body out (done id need) (put_mid 4 (length m₃ - 4) m₃ part)
-unfolding write_answer write_left answer left ledger_of
-says_yes {ed} {v} {id} {need} {body} {m₁} {m₂} {m₃} {part} {r} out vs hi k l e₁ e₂ e₃ long y =
+    → Content ed body id (mid_of 4 (length m₃ - 4) m₃) part r → Says ed id body out (Ok a) (put_mid 4 (length m₃ - 4) m₃ part)
+unfolding write_left left ledger_of
+says_yes {ed} {v} {id} {need} {body} {m₁} {m₂} {m₃} {part} {r} out vs hi k f e₁ e₂ e₃ long y =
+    let l = (room_for out k f).1 in
     let hv : v < 256 = omega (arith, vs, version_small ed) in
     let c : List ℕ = content_of ed k.t in
     let z = k.content in
@@ -234,4 +248,4 @@ says_yes {ed} {v} {id} {need} {body} {m₁} {m₂} {m₃} {part} {r} out vs hi k
     ∙ ap (λ (m : List ℕ). splice m 4 c) (front v id (need - 2) out m₁ m₂ m₃ hv hi (omega arith) e₁ e₂ e₃)
     ∙ splice_splice out 0 head c 4 (omega arith) (omega arith)
     ∙ ap (splice out 0) (append_assoc d (v ∷ id ∷ []) c ∙ ap (λ (x : ℕ). digits 256 2 x ++ (v ∷ id ∷ c)) n ∙ ap (λ (x : ℕ). digits 256 2 (length c + 2) ++ (x ∷ id ∷ c)) vs) in
-    (rw (k.file, k.size, le-leb need (length out) l), rw (k.file, k.size, le-leb need (length out) l) all)
+    (says out k f, rw (k.file, k.size, le-leb need (length out) l) all)

@@ -8,7 +8,7 @@ use Rattle.format.specs.declared.Edition.{Edition}
 use Rattle.format.specs.Whole.{Table, layout, read_as, content_of}
 use Rattle.format.specs.Calls.{filed}
 use Rattle.format.specs.declared.Refusal.{Refusal}
-use Rattle.runs.specs.declared.Step.{Step}
+use Rattle.write_runs.specs.declared.step.Step.{Step}
 
 -- the content of p bytes is at the ledger's start, if that has room for it
 pub record Filled (ed : Edition) (body : List ℕ) (id : ℕ) (out : List ℕ) (p : ℕ) (out' : List ℕ) : Type 0 where
@@ -23,11 +23,11 @@ pub record Unread (body : List ℕ) (id : ℕ) (f : Refusal) : Type 0 where
   pub reads : read_as (layout id) body ≡ refused f.fault f.need f.have
 
 -- what a step over the body says
-abbrev pub ContentIn : Edition → List ℕ → ℕ → List ℕ → List ℕ → Result (Step ℕ) Refusal → Type 0
+abbrev pub ContentIn : Edition → List ℕ → ℕ → List ℕ → List ℕ → Result Step Refusal → Type 0
 ContentIn ed body id out out' (Ok x) = Filled ed body id out x.place out'
 ContentIn ed body id out out' (Err f) = Unread body id f
 
-pub record Content (ed : Edition) (body : List ℕ) (id : ℕ) (out out' : List ℕ) (r : Result (Step ℕ) Refusal) : Type 0 where
+pub record Content (ed : Edition) (body : List ℕ) (id : ℕ) (out out' : List ℕ) (r : Result Step Refusal) : Type 0 where
   pub to : ContentIn ed body id out out' r
 
 -- the length of a ledger, or the refusal

@@ -4,106 +4,112 @@
 
 ghost use Rattle.std.specs.Prelude.{◌≡◌, ◌+◌, ◌%◌, ◌≤◌, length};
 ghost use Rattle.format.specs.Syntax.{end};
+ghost use Rattle.format.specs.Lists.{list_id, entry_syntax};
 ghost use Rattle.format.specs.Calls.{write_answer, write_left};
-ghost use Rattle.write_runs.specs.Went.{outside, Placed, Ran};
-ghost use Rattle.ledger_writer.specs.Listed.{entry_of, least_of, Listed};
+ghost use Rattle.write_runs.specs.Went.{outside, RanFrom};
+ghost use Rattle.ledger_writer.specs.Listed.{Listed};
 ghost use Rattle.ledger_writer.specs.Written.{Content, size_answer};
 
 use bits::put_be;
-use format::{Edition, Fault, Output, Refusal};
-use runs::{Step, copy_bytes};
+use format::{Edition, Fault, ListTable, Output, Refusal, fitted};
+use runs::copy_bytes;
 use write_ephemeris::{write_header, write_position3};
 use write_plans::write_plan;
-use write_runs::put;
+use write_runs::{Step, put};
 use write_tables::{write_association, write_fragment, write_position};
 
-// An entry of the tables that have entries: ids 0, 1, 3 and 4.
-fn write_entry(
+// An entry of a list, from a byte on (`at_value`; see `Step`).
+fn write_entry<'a>(
     edition: Edition,
-    table_id: u8,
-    body: &[u8],
-    at: u16,
+    table: ListTable,
+    from: Step<'a>,
     out: &mut [u8],
-    place: usize,
-) -> Result<Step<u16>, Refusal>
-    requires placed { Placed body.now at place }
-    requires at_value { at % 8 ≡ 0 }
-    ensures { Ran body.now (outside edition) (entry_of table_id) at place out.old (λ _. end) out.new result }
+) -> Result<Step<'a>, Refusal>
+    requires at_value { from.at % 8 ≡ 0 }
+    ensures { RanFrom from.entry (outside edition) (entry_syntax (list_id table)) out.old (λ _. end) out.new result }
 {
-    match table_id {
-        0 => write_position(body, at, out, place),
-        1 => write_fragment(body, at, out, place),
-        3 => write_plan(body, at, edition, out, place),
-        _ => write_position3(body, at, out, place),
+    match table {
+        ListTable::PositionV2 => write_position(from, out),
+        ListTable::CellFragment => write_fragment(from, out),
+        ListTable::BeamhoppingTimePlan => write_plan(from, edition, out),
+        ListTable::PositionV3 => write_position3(from, out),
     }
 }
 
-// The bits that must remain for there to be another entry.
-fn least_of(table_id: u8) -> usize
-    ensures { result ≡ least_of table_id }
-{
-    match table_id {
-        1 => 34,
-        3 => 48,
-        _ => 32,
-    }
-}
-
-// The entries from a bit place on, behind their 2-byte count. How many there are shows only as they are gone through.
-fn write_entries(
+// The entries from a place on, behind their 2-byte count, for which `spare` has room. A `while`, since how many there
+// are shows only as they are gone through.
+fn write_entries<'a>(
     edition: Edition,
-    table_id: u8,
-    body: &[u8],
-    start: u16,
+    table: ListTable,
+    from: Step<'a>,
     out: &mut [u8],
-    place: usize,
-) -> Result<Step<u16>, Refusal>
-    requires placed { Placed body.now start (place + 2) }
-    requires start_value { start % 8 ≡ 0 }
-    ensures { Listed edition body.now table_id start place out.old out.new result }
+) -> Result<Step<'a>, Refusal>
+    requires at_value { from.at % 8 ≡ 0 }
+    requires spare { from.place ≤ from.at + 6 }
+    ensures { Listed edition from.entry.body.now (list_id table) from.entry.at from.entry.place out.old out.new result }
 {
+    let body = from.body;
     let bits = 8 * body.len();
-    let least = least_of(table_id);
-    let mut at = start;
-    let mut there = place + 2;
+    let least = table.least_bits();
+    let mut at = from.at;
+    let mut there = from.place + 2;
     let mut count: u64 = 0;
     while least <= bits - at as usize {
-        let from = there.min(out.len());
-        let entry = write_entry(edition, table_id, body, at, &mut out[from..], 0)?;
+        let start = there.min(out.len());
+        let part = Step {
+            body,
+            place: 0,
+            at,
+            last: 0,
+        };
+        let entry = write_entry(edition, table, part, &mut out[start..])?;
         at = entry.at;
         there += entry.place;
         count += 1;
     }
-    put(out, place, 2, count);
+    put(out, from.place, 2, count);
     Ok(Step {
-        at,
+        body,
         place: there,
+        at,
         last: count,
     })
 }
 
-// What stands behind a ledger's table id, where there is room for it; the place that it comes to is its size.
-fn write_content(
+// What stands behind a ledger's table id, where there is room for it; the place that it comes to is its size. Of the
+// tables that are no list, id 2 alone has fields.
+fn write_content<'a>(
     edition: Edition,
     table_id: u8,
-    body: &[u8],
+    body: &'a [u8],
     out: &mut [u8],
-) -> Result<Step<u16>, Refusal>
+) -> Result<Step<'a>, Refusal>
     requires { length body.now ≤ 4096 }
     ensures { Content edition body.now table_id out.old out.new result }
 {
-    match table_id {
-        2 => write_association(body, 0, out, 0),
-        0..=3 => write_entries(edition, table_id, body, 0, out, 0),
-        4 => {
-            let head = write_header(body, 0, out, 0)?;
-            write_entries(edition, table_id, body, head.at, out, head.place)
-        }
-        _ => {
+    let start = Step {
+        body,
+        place: 0,
+        at: 0,
+        last: 0,
+    };
+    match ListTable::of(table_id) {
+        Some(table) => match table {
+            ListTable::PositionV2 | ListTable::CellFragment | ListTable::BeamhoppingTimePlan => {
+                write_entries(edition, table, start, out)
+            }
+            ListTable::PositionV3 => {
+                let head = write_header(start, out)?;
+                write_entries(edition, table, head, out)
+            }
+        },
+        None if table_id == 2 => write_association(start, out),
+        None => {
             copy_bytes(body, out);
             Ok(Step {
-                at: 0,
+                body,
                 place: body.len(),
+                at: (8 * body.len()) as u16,
                 last: 0,
             })
         }
@@ -143,19 +149,10 @@ pub fn ledger_write(
 {
     let need = ledger_size(edition, table_id, body)?;
     let have = out.len();
-    if have < need {
-        return Err(Refusal {
-            fault: Fault::BufferTooShort,
-            need,
-            have,
-        });
-    }
+    let output = fitted(table_id, need, have)?;
     put_be(out, 0, 2, (need - 2) as u64);
     put_be(out, 2, 1, edition.version() as u64);
     put_be(out, 3, 1, table_id as u64);
     let _ = write_content(edition, table_id, body, &mut out[4..]);
-    Ok(Output {
-        table_id,
-        length: need,
-    })
+    Ok(output)
 }

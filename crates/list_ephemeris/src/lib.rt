@@ -85,16 +85,18 @@ fn show_usable<W: Write>(
     name: &str,
     time: Option<UsableTime>,
 ) -> io::Result<()> {
-    let Some(time) = time else {
-        return out.absent(name);
-    };
-    let stamp = Stamp {
-        year: time.year,
-        reserved: time.reserved_zero_future_use,
-        day: time.day,
-        fraction: time.day_fraction,
-    };
-    out.part(name)?.stamp("", "", stamp)
+    match time {
+        Some(time) => {
+            let stamp = Stamp {
+                year: time.year,
+                reserved: time.reserved_zero_future_use,
+                day: time.day,
+                fraction: time.day_fraction,
+            };
+            out.part(name)?.stamp("", "", stamp)
+        }
+        None => out.absent(name),
+    }
 }
 
 fn show_ephemerides<W: Write>(

@@ -45,7 +45,8 @@ fn clock_of(base: u64, reserved: u8, ext: u16) -> Clock {
     }
 }
 
-// What a mode has of its own. Of the functions for modes 0 to 2, two write nothing.
+// What a mode has of its own. The functions for modes 0 to 2 each take their own variant apart, and write nothing of
+// another: one `match` of all would be longer than a function may be here.
 fn show_mode<W: Write>(
     out: &mut Listing<'_, W>,
     body: &[u8],

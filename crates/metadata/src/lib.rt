@@ -3,11 +3,11 @@
 
 ghost use Rattle.std.specs.Prelude.{◌≡◌};
 ghost use Rattle.std.specs.Int.{from_bool};
-ghost use Rattle.bits.specs.Read.{Place, Room};
+ghost use Rattle.bits.specs.Read.{Room};
 ghost use Rattle.metadata.specs.Metadata.{interpolation, interpolation_number, usable_of, usable_at, metadata_of, metadata_at};
 
 use bit_reader::enough;
-use bits::value_at;
+use bits::Cursor;
 use clocks::stamp_at;
 use format::{Fault, Found, Refusal};
 
@@ -97,11 +97,11 @@ impl InterpolationType {
 }
 
 // The usable time at a place where all of it is there.
-fn usable_at(s: &[u8], at: u16) -> UsableTime
-    requires { Room s.now at 56 }
-    ensures { result ≡ usable_of s.now at }
+fn usable_at(from: Cursor<'_>) -> UsableTime
+    requires { Room from.body.now from.at 56 }
+    ensures { result ≡ usable_of from.entry.body.now from.entry.at }
 {
-    let stamp = stamp_at(s, at);
+    let stamp = stamp_at(from);
     UsableTime {
         year: stamp.year,
         day: stamp.day,
@@ -112,39 +112,36 @@ fn usable_at(s: &[u8], at: u16) -> UsableTime
 
 // A usable time, there only if its flag is set; refused with a fault of the caller's where it passes the data.
 fn read_usable(
-    s: &[u8],
-    at: u16,
+    from: Cursor<'_>,
     fault: Fault,
     flag: bool,
 ) -> Result<Found<Option<UsableTime>>, Refusal>
-    requires { Place s.now at }
-    ensures { result ≡ usable_at s.now fault (from_bool flag) at }
+    ensures { result ≡ usable_at from.entry.body.now fault (from_bool flag) from.entry.at }
 {
     if !flag {
         return Ok(Found {
             value: None,
-            next: at,
+            next: from.at,
         });
     }
-    enough(s, at, fault, 56)?;
+    enough(from, fault, 56)?;
     Ok(Found {
-        value: Some(usable_at(s, at)),
-        next: at + 56,
+        value: Some(usable_at(from)),
+        next: from.at + 56,
     })
 }
 
 // The metadata at a place where its fixed fields are all there, around usable times read before.
 fn metadata_at(
-    s: &[u8],
-    at: u16,
+    from: Cursor<'_>,
     start: Option<UsableTime>,
     stop: Option<UsableTime>,
 ) -> PositionV3Metadata
-    requires { Room s.now at 120 }
-    ensures { result ≡ metadata_of s.now at start stop }
+    requires { Room from.body.now from.at 120 }
+    ensures { result ≡ metadata_of from.entry.body.now from.entry.at start stop }
 {
-    let first = stamp_at(s, at);
-    let last = stamp_at(s, at + 56);
+    let first = stamp_at(from);
+    let last = stamp_at(from.to(from.at + 56));
     PositionV3Metadata {
         total_start_time_year: first.year,
         total_start_time_day: first.day,
@@ -152,40 +149,38 @@ fn metadata_at(
         total_stop_time_year: last.year,
         total_stop_time_day: last.day,
         total_stop_time_day_fraction: last.fraction,
-        interpolation_flag: value_at(s, at + 113, 1) == 1,
-        interpolation_type: InterpolationType::from(value_at(s, at + 114, 3) as u8),
-        interpolation_degree: value_at(s, at + 117, 3) as u8,
+        interpolation_flag: from.value(113, 1) == 1,
+        interpolation_type: InterpolationType::from(from.value(114, 3) as u8),
+        interpolation_degree: from.value(117, 3) as u8,
         usable_start_time: start,
         usable_stop_time: stop,
         total_start_time_reserved_zero_future_use: first.reserved,
         total_stop_time_reserved_zero_future_use: last.reserved,
-        reserved_zero_future_use: value_at(s, at + 112, 1) as u8,
+        reserved_zero_future_use: from.value(112, 1) as u8,
     }
 }
 
 // The metadata, there only if its flag is set; a usable time within it, if its own flag is set too.
 pub fn read_metadata(
-    s: &[u8],
-    at: u16,
+    from: Cursor<'_>,
     meta: bool,
     start: bool,
     stop: bool,
 ) -> Result<Found<Option<PositionV3Metadata>>, Refusal>
-    requires { Place s.now at }
-    ensures { result ≡ metadata_at s.now (from_bool meta) (from_bool start) (from_bool stop) at }
+    ensures { result ≡ metadata_at from.entry.body.now (from_bool meta) (from_bool start) (from_bool stop) from.entry.at }
 {
     let none = !meta;
     if none {
         return Ok(Found {
             value: None,
-            next: at,
+            next: from.at,
         });
     }
-    enough(s, at, Fault::MetadataCut, 120)?;
-    let from = read_usable(s, at + 120, Fault::UsableStartCut, start)?;
-    let to = read_usable(s, from.next, Fault::UsableStopCut, stop)?;
+    enough(from, Fault::MetadataCut, 120)?;
+    let first = read_usable(from.to(from.at + 120), Fault::UsableStartCut, start)?;
+    let last = read_usable(from.to(first.next), Fault::UsableStopCut, stop)?;
     Ok(Found {
-        value: Some(metadata_at(s, at, from.value, to.value)),
-        next: to.next,
+        value: Some(metadata_at(from, first.value, last.value)),
+        next: last.next,
     })
 }

@@ -93,7 +93,7 @@ pub record Listed (b : List ℕ) (w p : ℕ) (x : Found Part) : Type 0 where
 
 -- no list is both read and refused
 pub not_both : {P : Type 0} {x : Found Part} {f : Refusal} → ◌≡◌ {A = Result (Found Part) Refusal} (Ok x) (Err f) → P
-not_both e = let z : ◌≡◌ {A = ℕ} 0 1 = cc in absurd (omega arith)
+not_both e = absurd cc
 
 pub listed : {r : Result (Found Part) Refusal} {x : Found Part} (b : List ℕ) (a : Fault) (w p : ℕ) → Place b p
     → r ≡ part_at b a w p → r ≡ Ok x

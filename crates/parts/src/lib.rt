@@ -4,14 +4,14 @@
 ghost use Rattle.std.specs.Prelude.{◌≡◌, ◌+◌, ◌*◌, ◌≤◌, length, take, drop};
 ghost use Rattle.format.specs.Digits.{bits_of};
 ghost use Rattle.format.specs.ByName.{ones};
-ghost use Rattle.bits.specs.Read.{Place};
 ghost use Rattle.parts.specs.Parts.{part_at};
 
 use bit_reader::enough;
-use bits::read_u;
+use bits::{Cursor, read_u};
 use format::{Fault, Found, Refusal};
 
-// The bytes of the body that hold a list, and how many elements it has.
+// The bytes of the body that hold a list, and how many elements it has. It names them and does not hold them, so that
+// the records have no lifetime; the body goes beside it.
 #[derive(Clone, Copy)]
 pub struct Part {
     pub start: usize,
@@ -21,15 +21,14 @@ pub struct Part {
 
 // A count of 10 bits, and behind it so many elements of some bits each; refused with a fault of the caller's where they
 // pass the end.
-pub fn read_part(s: &[u8], at: u16, fault: Fault, bits: usize) -> Result<Found<Part>, Refusal>
-    requires place { Place s.now at }
-    requires bits_bound { bits ≤ 80 }
-    ensures { result ≡ part_at s.now fault bits at }
+pub fn read_part(from: Cursor<'_>, fault: Fault, bits: usize) -> Result<Found<Part>, Refusal>
+    requires { bits ≤ 80 }
+    ensures { result ≡ part_at from.entry.body.now fault bits from.entry.at }
 {
-    let found = read_u(s, at, 10)?;
+    let found = read_u(from, 10)?;
     let count = found.value as usize;
     let size = count * bits;
-    enough(s, found.next, fault, size)?;
+    enough(from.to(found.next), fault, size)?;
     Ok(Found {
         value: Part {
             start: found.next as usize / 8,

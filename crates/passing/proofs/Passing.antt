@@ -82,7 +82,7 @@ others nm (l ∷ ls) h = go (eqt nm l.1) refl h (λ g. others nm ls g)
   where
     go : (t : Bool) → eqt nm l.1 ≡ t → cond t false (apart nm ls) ≡ true
         → (apart nm ls ≡ true → Other nm ls) → Other nm (l ∷ ls)
-    go true e g more = let z : ◌≡◌ {A = ℕ} 0 1 = cc in absurd (omega arith)
+    go true e g more = absurd cc
     go false e g more = (e, more g)
 
 pub other_left : (nm : Name) (ls ks : List Line) → Other nm (ls ++ ks) → Other nm ls

@@ -2,10 +2,9 @@
 #![tactic(auto)]
 
 ghost use Rattle.std.specs.Prelude.{◌≡◌, ◌%◌};
-ghost use Rattle.bits.specs.Read.{Place};
 ghost use Rattle.plan.specs.Plan.{plan_made, plan_closed, fields_at, plan_at};
 
-use bits::read_u;
+use bits::{Cursor, read_u};
 use clocks::{Clock, read_clock};
 use format::{Fault, Found, Refusal};
 use plan_modes::{BeamhoppingMode, TimePlanMode, read_mode};
@@ -35,7 +34,7 @@ pub struct PlanHead {
     pub plan_length: u16,
 }
 
-// A plan made of its fields.
+// A plan made of its fields; its kind is the field's number, of which the Rust's type is made here.
 fn plan_of(
     head: PlanHead,
     kept: u8,
@@ -62,22 +61,21 @@ fn plan_of(
     }
 }
 
-// The fields that plan_length counts, in a plan that ends at a place. The data's end alone limits them here.
+// The fields that plan_length counts, in a plan that ends at a place. The data's end alone limits them here. They start
+// a byte (`at_value`; see `Cursor`).
 fn read_fields(
-    s: &[u8],
-    at: u16,
+    from: Cursor<'_>,
     end: u16,
     head: PlanHead,
 ) -> Result<Found<BeamhoppingPlan>, Refusal>
-    requires place { Place s.now at }
-    requires at_value { at % 8 ≡ 0 }
-    ensures { result ≡ fields_at s.now end head at }
+    requires at_value { from.at % 8 ≡ 0 }
+    ensures { result ≡ fields_at from.entry.body.now end head from.entry.at }
 {
-    let kept = read_u(s, at, 6)?;
-    let kind = read_u(s, kept.next, 2)?;
-    let start = read_clock(s, kind.next)?;
-    let cycle = read_clock(s, start.next)?;
-    let mode = read_mode(s, cycle.next, end, kind.value)?;
+    let kept = read_u(from, 6)?;
+    let kind = read_u(from.to(kept.next), 2)?;
+    let start = read_clock(from.to(kind.next))?;
+    let cycle = read_clock(from.to(start.next))?;
+    let mode = read_mode(from.to(cycle.next), end, kind.value)?;
     let plan = plan_of(
         head,
         kept.value as u8,
@@ -114,21 +112,20 @@ fn closed(
     })
 }
 
-// The plan at a place, and the place at which the next one starts.
-pub fn read_plan(s: &[u8], at: u16) -> Result<Found<BeamhoppingPlan>, Refusal>
-    requires place { Place s.now at }
-    requires at_value { at % 8 ≡ 0 }
-    ensures { result ≡ plan_at s.now at }
+// The plan at a place, which starts a byte, and the place at which the next one starts.
+pub fn read_plan(from: Cursor<'_>) -> Result<Found<BeamhoppingPlan>, Refusal>
+    requires at_value { from.at % 8 ≡ 0 }
+    ensures { result ≡ plan_at from.entry.body.now from.entry.at }
 {
-    let id = read_u(s, at, 32)?;
-    let kept = read_u(s, id.next, 4)?;
-    let bytes = read_u(s, kept.next, 12)?;
+    let id = read_u(from, 32)?;
+    let kept = read_u(from.to(id.next), 4)?;
+    let bytes = read_u(from.to(kept.next), 12)?;
     let end = (bytes.next as usize + 8 * bytes.value as usize) as u16;
     let head = PlanHead {
         id: id.value as u32,
         reserved: kept.value as u8,
         plan_length: bytes.value as u16,
     };
-    let found = read_fields(s, bytes.next, end, head)?;
-    closed(found, end, (8 * s.len()) as u16)
+    let found = read_fields(from.to(bytes.next), end, head)?;
+    closed(found, end, (8 * from.body.len()) as u16)
 }

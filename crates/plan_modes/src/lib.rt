@@ -2,11 +2,11 @@
 #![tactic(auto)]
 
 ghost use Rattle.std.specs.Prelude.{◌≡◌, ℕ, ◌%◌};
-ghost use Rattle.bits.specs.Read.{Place, Room};
+ghost use Rattle.bits.specs.Read.{Room};
 ghost use Rattle.plan_modes.specs.Modes.{plan_mode, plan_mode_number, dwell_at, bitmap_at, grid_at, raw_at, mode_at};
 
 use bit_reader::enough;
-use bits::value_at;
+use bits::Cursor;
 use clocks::clock_within;
 use format::{Fault, Found, Refusal};
 use parts::{Part, slots_on};
@@ -101,13 +101,12 @@ impl TimePlanMode {
 }
 
 // Mode 0.
-fn read_dwell(s: &[u8], at: u16) -> Result<Found<BeamhoppingMode>, Refusal>
-    requires { Place s.now at }
-    ensures { (e : ℕ) → result ≡ dwell_at s.now e at }
+fn read_dwell(from: Cursor<'_>) -> Result<Found<BeamhoppingMode>, Refusal>
+    ensures { (e : ℕ) → result ≡ dwell_at from.entry.body.now e from.entry.at }
 {
-    enough(s, at, Fault::DwellCut, 96)?;
-    let dwell = clock_within(s, at)?;
-    let on = clock_within(s, dwell.next)?;
+    enough(from, Fault::DwellCut, 96)?;
+    let dwell = clock_within(from)?;
+    let on = clock_within(from.to(dwell.next))?;
     Ok(Found {
         value: BeamhoppingMode::Mode0 {
             dwell_duration_base: dwell.value.base,
@@ -121,54 +120,52 @@ fn read_dwell(s: &[u8], at: u16) -> Result<Found<BeamhoppingMode>, Refusal>
     })
 }
 
-// Mode 1 where its header is there.
-fn bitmap_at(s: &[u8], at: u16) -> Result<Found<BeamhoppingMode>, Refusal>
-    requires room { Room s.now at 32 }
-    requires at_value { at % 8 ≡ 0 }
-    ensures { (e : ℕ) → result ≡ bitmap_at s.now e at }
+// Mode 1 where its header is there. Its slots are whole bytes, so that it starts one (`at_value`; see `Cursor`).
+fn bitmap_at(from: Cursor<'_>) -> Result<Found<BeamhoppingMode>, Refusal>
+    requires room { Room from.body.now from.at 32 }
+    requires at_value { from.at % 8 ≡ 0 }
+    ensures { (e : ℕ) → result ≡ bitmap_at from.entry.body.now e from.entry.at }
 {
-    let size = value_at(s, at + 1, 15) as usize;
-    let next = at + 32;
-    enough(s, next, Fault::SlotsCut, size)?;
+    let size = from.value(1, 15) as usize;
+    let next = from.at + 32;
+    enough(from.to(next), Fault::SlotsCut, size)?;
     let start = next as usize / 8;
     let length = (size + 7) / 8;
     Ok(Found {
         value: BeamhoppingMode::Mode1 {
             bit_map_size: size as u16,
-            current_slot: value_at(s, at + 17, 15) as u16,
+            current_slot: from.value(17, 15) as u16,
             slot_transmission_on: Part {
                 start,
                 length,
                 count: size,
             },
-            slots_on: slots_on(s, start, size),
-            reserved_zero_future_use_size: value_at(s, at, 1) as u8,
-            reserved_zero_future_use_slot: value_at(s, at + 16, 1) as u8,
+            slots_on: slots_on(from.body, start, size),
+            reserved_zero_future_use_size: from.value(0, 1) as u8,
+            reserved_zero_future_use_slot: from.value(16, 1) as u8,
         },
         next: (next as usize + 8 * length) as u16,
     })
 }
 
-// Mode 1.
-fn read_bitmap(s: &[u8], at: u16) -> Result<Found<BeamhoppingMode>, Refusal>
-    requires place { Place s.now at }
-    requires at_value { at % 8 ≡ 0 }
-    ensures { (e : ℕ) → result ≡ bitmap_at s.now e at }
+// Mode 1, from a byte on.
+fn read_bitmap(from: Cursor<'_>) -> Result<Found<BeamhoppingMode>, Refusal>
+    requires at_value { from.at % 8 ≡ 0 }
+    ensures { (e : ℕ) → result ≡ bitmap_at from.entry.body.now e from.entry.at }
 {
-    enough(s, at, Fault::BitmapHeaderCut, 32)?;
-    bitmap_at(s, at)
+    enough(from, Fault::BitmapHeaderCut, 32)?;
+    bitmap_at(from)
 }
 
 // Mode 2.
-fn read_grid(s: &[u8], at: u16) -> Result<Found<BeamhoppingMode>, Refusal>
-    requires { Place s.now at }
-    ensures { (e : ℕ) → result ≡ grid_at s.now e at }
+fn read_grid(from: Cursor<'_>) -> Result<Found<BeamhoppingMode>, Refusal>
+    ensures { (e : ℕ) → result ≡ grid_at from.entry.body.now e from.entry.at }
 {
-    enough(s, at, Fault::GridCut, 192)?;
-    let grid = clock_within(s, at)?;
-    let visit = clock_within(s, grid.next)?;
-    let sleep = clock_within(s, visit.next)?;
-    let span = clock_within(s, sleep.next)?;
+    enough(from, Fault::GridCut, 192)?;
+    let grid = clock_within(from)?;
+    let visit = clock_within(from.to(grid.next))?;
+    let sleep = clock_within(from.to(visit.next))?;
+    let span = clock_within(from.to(sleep.next))?;
     Ok(Found {
         value: BeamhoppingMode::Mode2 {
             grid_size_base: grid.value.base,
@@ -189,22 +186,21 @@ fn read_grid(s: &[u8], at: u16) -> Result<Found<BeamhoppingMode>, Refusal>
 }
 
 // Mode 3: the bytes up to the plan's end, or none where that is past the data.
-fn read_raw(s: &[u8], at: u16, end: u16) -> Result<Found<BeamhoppingMode>, Refusal>
-    requires { Place s.now at }
-    ensures { result ≡ raw_at s.now end at }
+fn read_raw(from: Cursor<'_>, end: u16) -> Result<Found<BeamhoppingMode>, Refusal>
+    ensures { result ≡ raw_at from.entry.body.now end from.entry.at }
 {
-    let start = at as usize / 8;
-    if 8 * s.len() < end as usize || end <= at {
+    let start = from.at as usize / 8;
+    if 8 * from.body.len() < end as usize || end <= from.at {
         return Ok(Found {
             value: BeamhoppingMode::Reserved(Part {
                 start,
                 length: 0,
                 count: 0,
             }),
-            next: at,
+            next: from.at,
         });
     }
-    let length = (end - at) as usize / 8;
+    let length = (end - from.at) as usize / 8;
     Ok(Found {
         value: BeamhoppingMode::Reserved(Part {
             start,
@@ -215,17 +211,16 @@ fn read_raw(s: &[u8], at: u16, end: u16) -> Result<Found<BeamhoppingMode>, Refus
     })
 }
 
-// The mode of a number, in a plan that ends at a place. By the number and not by its `TimePlanMode`, as the table's
-// description goes by it: a `Reserved` may hold any.
-pub fn read_mode(s: &[u8], at: u16, end: u16, mode: u64) -> Result<Found<BeamhoppingMode>, Refusal>
-    requires place { Place s.now at }
-    requires at_value { at % 8 ≡ 0 }
-    ensures { result ≡ mode_at s.now end mode at }
+// The mode of a number, from a byte on, in a plan that ends at a place. By the number and not by its `TimePlanMode`, as
+// the table's description goes by it: a `Reserved` may hold any.
+pub fn read_mode(from: Cursor<'_>, end: u16, mode: u64) -> Result<Found<BeamhoppingMode>, Refusal>
+    requires at_value { from.at % 8 ≡ 0 }
+    ensures { result ≡ mode_at from.entry.body.now end mode from.entry.at }
 {
     match mode {
-        0 => read_dwell(s, at),
-        1 => read_bitmap(s, at),
-        2 => read_grid(s, at),
-        _ => read_raw(s, at, end),
+        0 => read_dwell(from),
+        1 => read_bitmap(from),
+        2 => read_grid(from),
+        _ => read_raw(from, end),
     }
 }

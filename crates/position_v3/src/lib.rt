@@ -2,11 +2,10 @@
 #![tactic(auto)]
 
 ghost use Rattle.std.specs.Prelude.{◌≡◌, ◌%◌, ◌≤◌, length};
-ghost use Rattle.bits.specs.Read.{Place};
 ghost use Rattle.position_v3.specs.PositionV3.{header_at, flags_at, front_at, satellite_v3_at};
 
 use bit_reader::enough;
-use bits::{read_u, value_at};
+use bits::{Cursor, read_u};
 use clocks::stamp_at;
 use ephemeris::{CovarianceData, read_covariance, read_ephemerides};
 use format::{Fault, Found, Refusal};
@@ -59,13 +58,14 @@ pub fn read_header(s: &[u8]) -> Result<Found<PositionV3Header>, Refusal>
     requires { length s.now ≤ 4096 }
     ensures { result ≡ header_at s.now }
 {
-    enough(s, 0, Fault::BodyEmpty, 1)?;
-    enough(s, 0, Fault::HeaderCut, 64)?;
-    let stamp = stamp_at(s, 8);
+    let from = Cursor { body: s, at: 0 };
+    enough(from, Fault::BodyEmpty, 1)?;
+    enough(from, Fault::HeaderCut, 64)?;
+    let stamp = stamp_at(from.to(8));
     Ok(Found {
         value: PositionV3Header {
-            oem_version_major: value_at(s, 0, 4) as u8,
-            oem_version_minor: value_at(s, 4, 4) as u8,
+            oem_version_major: from.value(0, 4) as u8,
+            oem_version_minor: from.value(4, 4) as u8,
             creation_date_year: stamp.year,
             creation_date_day: stamp.day,
             creation_date_day_fraction: stamp.fraction,
@@ -76,14 +76,13 @@ pub fn read_header(s: &[u8]) -> Result<Found<PositionV3Header>, Refusal>
 }
 
 // Reads the four flags.
-fn read_flags(s: &[u8], at: u16) -> Result<Found<Flags>, Refusal>
-    requires { Place s.now at }
-    ensures { result ≡ flags_at s.now at }
+fn read_flags(from: Cursor<'_>) -> Result<Found<Flags>, Refusal>
+    ensures { result ≡ flags_at from.entry.body.now from.entry.at }
 {
-    let start = read_u(s, at, 1)?;
-    let stop = read_u(s, start.next, 1)?;
-    let accel = read_u(s, stop.next, 1)?;
-    let covariance = read_u(s, accel.next, 1)?;
+    let start = read_u(from, 1)?;
+    let stop = read_u(from.to(start.next), 1)?;
+    let accel = read_u(from.to(stop.next), 1)?;
+    let covariance = read_u(from.to(accel.next), 1)?;
     Ok(Found {
         value: Flags {
             start: start.value == 1,
@@ -96,14 +95,13 @@ fn read_flags(s: &[u8], at: u16) -> Result<Found<Flags>, Refusal>
 }
 
 // Reads a satellite's id, reserved bits and flags.
-fn read_front(s: &[u8], at: u16) -> Result<Found<Front>, Refusal>
-    requires { Place s.now at }
-    ensures { result ≡ front_at s.now at }
+fn read_front(from: Cursor<'_>) -> Result<Found<Front>, Refusal>
+    ensures { result ≡ front_at from.entry.body.now from.entry.at }
 {
-    let id = read_u(s, at, 24)?;
-    let reserved = read_u(s, id.next, 3)?;
-    let metadata = read_u(s, reserved.next, 1)?;
-    let flags = read_flags(s, metadata.next)?;
+    let id = read_u(from, 24)?;
+    let reserved = read_u(from.to(id.next), 3)?;
+    let metadata = read_u(from.to(reserved.next), 1)?;
+    let flags = read_flags(from.to(metadata.next))?;
     Ok(Found {
         value: Front {
             satellite_id: id.value as u32,
@@ -115,18 +113,18 @@ fn read_front(s: &[u8], at: u16) -> Result<Found<Front>, Refusal>
     })
 }
 
-// Reads the satellite at a place.
-pub fn read_satellite_v3(s: &[u8], at: u16) -> Result<Found<PositionV3Satellite>, Refusal>
-    requires place { Place s.now at }
-    requires at_value { at % 8 ≡ 0 }
-    ensures { result ≡ satellite_v3_at s.now at }
+// Reads the satellite at a place, which starts a byte (`at_value`; see `Cursor`).
+pub fn read_satellite_v3(from: Cursor<'_>) -> Result<Found<PositionV3Satellite>, Refusal>
+    requires at_value { from.at % 8 ≡ 0 }
+    ensures { result ≡ satellite_v3_at from.entry.body.now from.entry.at }
 {
-    let front = read_front(s, at)?;
+    let front = read_front(from)?;
     let fields = front.value;
     let flags = fields.flags;
-    let metadata = read_metadata(s, front.next, fields.metadata, flags.start, flags.stop)?;
-    let entries = read_ephemerides(s, metadata.next, flags.accel)?;
-    let covariance = read_covariance(s, entries.next, flags.covariance)?;
+    let behind = from.to(front.next);
+    let metadata = read_metadata(behind, fields.metadata, flags.start, flags.stop)?;
+    let entries = read_ephemerides(from.to(metadata.next), flags.accel)?;
+    let covariance = read_covariance(from.to(entries.next), flags.covariance)?;
     Ok(Found {
         value: PositionV3Satellite {
             satellite_id: fields.satellite_id,

@@ -30,7 +30,7 @@ use Rattle.format.proofs.PlanLaws.{behind_length, plan_field, behind_raw, filler
 use Rattle.bits.proofs.Splices.{splice_splice}
 use Rattle.write_runs.specs.Went.{pushes}
 use Rattle.write_runs.proofs.WentLaws.{pushes_got, pushes_refused}
-use Rattle.runs.specs.declared.Step.{Step}
+use Rattle.read_runs.specs.declared.step.Step.{Step}
 use Rattle.read_runs.specs.Came.{Way, way_of, Came, Halted, Laid}
 use Rattle.read_plans.specs.Taken.{Took, Taken, leaves_by}
 use Rattle.read_plans.proofs.TakenLaws.{pushes_more}
@@ -113,7 +113,7 @@ raw_there {way} {l} {nm = nm} {place} {p = p} w h =
 
 -- a refusal of the length or of a field within the plan
 pub within_no : {b : Bool} {l out out₀ out₁ out₂ : List ℕ} {s : Syntax} {nm : Name} {place at p₀ a₀ : ℕ} {j : ℕ → Syntax} {f : Refusal}
-    {r : Result (Step ℕ) Refusal} → Came (way_of Second b) l s place at out (plan nm hopping) p₀ a₀ out₀ → r ≡ Err f
+    {r : Result Step Refusal} → Came (way_of Second b) l s place at out (plan nm hopping) p₀ a₀ out₀ → r ≡ Err f
     → Laid (way_of Second b) l (field unsigned nm 12 (λ _. hopping)) p₀ a₀ out₀ j out₁ (Err f) → Taken (way_of Second b) l s place at out out₂ r
 within_no {b} {l} {nm = nm} {p₀ = p₀} {f = f} x q y =
     rw q
@@ -128,7 +128,7 @@ within_no {b} {l} {nm = nm} {p₀ = p₀} {f = f} x q y =
 
 -- a refusal of the filler
 pub filler_no : {b : Bool} {l out out₀ out₁ out₂ out₃ : List ℕ} {s : Syntax} {nm : Name} {place at p₀ a₀ p₂ a₂ : ℕ} {j : ℕ → Syntax} {f : Refusal}
-    {r : Result (Step ℕ) Refusal} → Came (way_of Second b) l s place at out (plan nm hopping) p₀ a₀ out₀
+    {r : Result Step Refusal} → Came (way_of Second b) l s place at out (plan nm hopping) p₀ a₀ out₀
     → Came (way_of Second b) l (field unsigned nm 12 (λ _. hopping)) p₀ a₀ out₀ end p₂ a₂ out₁ → r ≡ Err f
     → Laid (way_of Second b) l (raw "filler") p₂ a₂ out₁ j out₂ (Err f) → Taken (way_of Second b) l s place at out out₃ r
 unfolding read_ledger

@@ -15,7 +15,7 @@ use Rattle.format.specs.Ledger.{read_ledger}
 use Rattle.format.specs.declared.Refusal.{Refusal}
 use Rattle.format.proofs.DigitLaws.{length_digits, length_bits}
 use Rattle.bits.proofs.Splices.{splice_front, splice_splice}
-use Rattle.runs.specs.declared.Step.{Step}
+use Rattle.read_runs.specs.declared.step.Step.{Step}
 use Rattle.write_runs.specs.Went.{pushes}
 use Rattle.write_runs.proofs.WentLaws.{pushes_append, pushes_refused, pushes_got}
 use Rattle.read_runs.specs.Came.{Way, way_of, Came, Laid}
@@ -28,22 +28,27 @@ pushes_more xs ys rest = ap (pushes xs) (sym (pushes_got ys rest)) ∙ sym (push
 
 module _ {way : Way} {l : List ℕ} where
   -- an entry without a plan's length
-  pub as_taken : {place at : ℕ} {s : Syntax} {out out' : List ℕ} {r : Result (Step ℕ) Refusal} → Laid way l s place at out (λ _. end) out' r → Taken way l s place at out out' r
+  pub as_taken : {place at : ℕ} {s : Syntax} {out out' : List ℕ} {r : Result Step Refusal} → Laid way l s place at out (λ _. end) out' r → Taken way l s place at out out' r
   unfolding read_ledger
   as_taken {r = Ok x} y =
-      let w = y.to in
-      record { to = record { ts = w.ts; reads = w.reads ∙ pushes_got w.ts (drop x.place l); size = w.size; bits = w.bits; long = w.long; within = w.within; slack = w.slack } }
+      let w = y.to.came in
+      record { to = record { same = y.to.same; took = record { ts = w.ts; reads = w.reads ∙ pushes_got w.ts (drop x.place l); size = w.size; bits = w.bits; long = w.long; within = w.within; slack = w.slack } } }
   as_taken {r = Err f} y = record { to = y.to }
 
-  pub taken_no : {place at : ℕ} {s : Syntax} {out out₁ out₂ : List ℕ} {k : ℕ → Syntax} {f : Refusal} {r : Result (Step ℕ) Refusal} → r ≡ Err f
+  pub taken_no : {place at : ℕ} {s : Syntax} {out out₁ out₂ : List ℕ} {k : ℕ → Syntax} {f : Refusal} {r : Result Step Refusal} → r ≡ Err f
       → Laid way l s place at out k out₁ (Err f) → Taken way l s place at out out₂ r
   taken_no q y = rw q (record { to = y.to })
+
+-- a refusal is one wherever the entry was to be laid
+pub taken_stops : {way : Way} {l : List ℕ} {place at at₂ : ℕ} {s : Syntax} {out out₁ out₂ out₃ : List ℕ} {f : Refusal} {r : Result Step Refusal} → r ≡ Err f
+    → Taken way l s place at out out₁ (Err f) → Taken way l s place at₂ out₂ out₃ r
+taken_stops q y = rw q (record { to = y.to })
 
 -- ---- the first edition: the length is stored in front of the fields that it counts
 
 module _ {b : Bool} {l : List ℕ} {s k : Syntax} {nm : Name} {place at place₁ at₁ : ℕ} {out out₁ : List ℕ} (x : Came (way_of First b) l s place at out (plan nm k) place₁ at₁ out₁) where
   -- a refusal within a plan
-  pub plan_no : {at₂ : ℕ} {out₂ out₃ : List ℕ} {j : ℕ → Syntax} {f : Refusal} {r : Result (Step ℕ) Refusal} → r ≡ Err f
+  pub plan_no : {at₂ : ℕ} {out₂ out₃ : List ℕ} {j : ℕ → Syntax} {f : Refusal} {r : Result Step Refusal} → r ≡ Err f
       → Laid (way_of First b) l k place₁ at₂ out₁ j out₂ (Err f) → Taken (way_of First b) l s place at out out₃ r
   unfolding read_ledger
   plan_no {f = f} q y =
@@ -91,7 +96,7 @@ module _ {b : Bool} {l : List ℕ} {s k : Syntax} {nm : Name} {place at place₁
 
 -- ---- what the fields within a plan spare
 
-pub spared : {way : Way} {l out out' : List ℕ} {s : Syntax} {k : ℕ → Syntax} {place at place₁ at₁ : ℕ} {r : Result (Step ℕ) Refusal} → at₁ + 8 * place + 8 ≤ at + 8 * place₁
+pub spared : {way : Way} {l out out' : List ℕ} {s : Syntax} {k : ℕ → Syntax} {place at place₁ at₁ : ℕ} {r : Result Step Refusal} → at₁ + 8 * place + 8 ≤ at + 8 * place₁
     → Laid way l s place₁ at₁ out k out' r → Spared place at r
-spared {r = Ok x} h y = record { to = omega (arith, y.to.slack) }
+spared {r = Ok x} h y = record { to = omega (arith, y.to.came.slack) }
 spared {r = Err f} h y = record { to = tt }

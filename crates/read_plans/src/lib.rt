@@ -7,13 +7,13 @@ ghost use Rattle.format.specs.Syntax.{Name, Syntax, end, slots, raw};
 ghost use Rattle.format.specs.declared.Fault.TheVariants.{SlotsCut};
 ghost use Rattle.format.specs.Tables.{bitmap, mode, hopping, beamhopping};
 ghost use Rattle.runs.specs.Stored.{stored};
-ghost use Rattle.read_runs.specs.Came.{LedgerPlaced, Way, way_of, Laid};
-ghost use Rattle.read_plans.specs.Taken.{Taken, Spared, Opened, Closed, leaves_by};
+ghost use Rattle.read_runs.specs.Came.{Way, way_of, LaidFrom};
+ghost use Rattle.read_plans.specs.Taken.{TakenFrom, Spared, Opened, Closed, leaves_by};
 
 use bits::{get_be, value_at};
 use format::{Edition, Fault, Refusal};
-use read_runs::{lay, read_run, refused_at};
-use runs::{Step, copy_bytes, marks};
+use read_runs::{Step, lay, read_run, refused_at};
+use runs::{copy_bytes, marks};
 
 // Stores bytes at a bit place where there is room for them, and else leaves the buffer as it is; at a byte place they
 // are copied.
@@ -28,114 +28,90 @@ fn lay_bytes(bytes: &[u8], out: &mut [u8], at: usize)
         copy_bytes(bytes, &mut out[at / 8..]);
         return;
     }
-    for i in 0..bytes.len() {
-        lay(out, at + 8 * i, 8, bytes[i] as u64);
+    for (i, &byte) in bytes.iter().enumerate() {
+        lay(out, at + 8 * i, 8, byte as u64);
     }
 }
 
 // Slots: so many single bits in bytes that are laid as they are, once the bits behind the slots are known to be zero.
-fn read_slots(
-    ledger: &[u8],
-    place: usize,
-    m: usize,
-    out: &mut [u8],
-    at: usize,
-) -> Result<Step<usize>, Refusal>
-    requires ledger_placed { LedgerPlaced ledger.now place at }
+fn read_slots<'a>(from: Step<'a>, m: usize, out: &mut [u8]) -> Result<Step<'a>, Refusal>
     requires m_bound { m < 32768 }
-    ensures { (way : Way) (nm : Name) (s : Syntax) → Laid way ledger.now (slots nm SlotsCut m s) place at out.old (λ _. s) out.new result }
+    ensures { (way : Way) (nm : Name) (s : Syntax)
+        → LaidFrom way from.entry (slots nm SlotsCut m s) out.old (λ _. s) out.new result }
 {
     let whole = (m + 7) / 8;
-    if ledger.len() - place < whole {
-        return Err(refused_at(Fault::LedgerMisfit, place));
+    if from.ledger.len() - from.place < whole {
+        return Err(refused_at(Fault::LedgerMisfit, from.place));
     }
-    let end = place + whole;
-    let packed = &ledger[place..end];
+    let end = from.place + whole;
+    let packed = &from.ledger[from.place..end];
     if value_at(packed, m as u16, 8 * whole - m) != 0 {
-        return Err(refused_at(Fault::ValueMisfit, place));
+        return Err(refused_at(Fault::ValueMisfit, from.place));
     }
-    lay_bytes(packed, out, at);
+    lay_bytes(packed, out, from.at);
     Ok(Step {
-        at: at + 8 * whole,
+        ledger: from.ledger,
         place: end,
+        at: from.at + 8 * whole,
         last: 0,
     })
 }
 
 // Raw bytes or filler, behind their 2-byte count.
-fn read_raw(ledger: &[u8], place: usize, out: &mut [u8], at: usize) -> Result<Step<usize>, Refusal>
-    requires { LedgerPlaced ledger.now place at }
-    ensures { (way : Way) (nm : Name) → Laid way ledger.now (raw nm) place at out.old (λ _. end) out.new result }
+fn read_raw<'a>(from: Step<'a>, out: &mut [u8]) -> Result<Step<'a>, Refusal>
+    ensures { (way : Way) (nm : Name) → LaidFrom way from.entry (raw nm) out.old (λ _. end) out.new result }
 {
-    if ledger.len() - place < 2 {
-        return Err(refused_at(Fault::LedgerMisfit, place));
+    if from.ledger.len() - from.place < 2 {
+        return Err(refused_at(Fault::LedgerMisfit, from.place));
     }
-    let count = get_be(ledger, place, 2) as usize;
-    let start = place + 2;
-    if ledger.len() - start < count {
+    let count = get_be(from.ledger, from.place, 2) as usize;
+    let start = from.place + 2;
+    if from.ledger.len() - start < count {
         return Err(refused_at(Fault::LedgerMisfit, start));
     }
     let end = start + count;
-    lay_bytes(&ledger[start..end], out, at);
+    lay_bytes(&from.ledger[start..end], out, from.at);
     Ok(Step {
-        at: at + 8 * count,
+        ledger: from.ledger,
         place: end,
+        at: from.at + 8 * count,
         last: 0,
     })
 }
 
 // Mode 1: a map of slots.
-fn read_bitmap(
-    ledger: &[u8],
-    place: usize,
-    out: &mut [u8],
-    at: usize,
-) -> Result<Step<usize>, Refusal>
-    requires { LedgerPlaced ledger.now place at }
-    ensures { (way : Way) → Laid way ledger.now bitmap place at out.old (λ _. end) out.new result }
+fn read_bitmap<'a>(from: Step<'a>, out: &mut [u8]) -> Result<Step<'a>, Refusal>
+    ensures { (way : Way) → LaidFrom way from.entry bitmap out.old (λ _. end) out.new result }
 {
-    let size = read_run(ledger, place, &marks::SLOT, out, at)?;
-    let current = read_run(ledger, size.place, &marks::SLOT, out, size.at)?;
-    read_slots(ledger, current.place, size.last as usize, out, current.at)
+    let size = read_run(from, &marks::SLOT, out)?;
+    let current = read_run(size, &marks::SLOT, out)?;
+    read_slots(current, size.last as usize, out)
 }
 
-// The fields of a plan's mode, by its number.
-fn read_mode(
-    ledger: &[u8],
-    place: usize,
-    kind: u64,
-    out: &mut [u8],
-    at: usize,
-) -> Result<Step<usize>, Refusal>
-    requires { LedgerPlaced ledger.now place at }
-    ensures { (way : Way) → Laid way ledger.now (mode kind) place at out.old (λ _. end) out.new result }
+// The fields of a plan's mode. `kind` is the number of the mode's field, and each of the four has its fields.
+fn read_mode<'a>(from: Step<'a>, kind: u64, out: &mut [u8]) -> Result<Step<'a>, Refusal>
+    ensures { (way : Way) → LaidFrom way from.entry (mode kind) out.old (λ _. end) out.new result }
 {
     match kind {
-        0 => read_run(ledger, place, &marks::CLOCKS, out, at),
-        1 => read_bitmap(ledger, place, out, at),
-        2 => read_run(ledger, place, &marks::GRID, out, at),
-        _ => read_raw(ledger, place, out, at),
+        0 => read_run(from, &marks::CLOCKS, out),
+        1 => read_bitmap(from, out),
+        2 => read_run(from, &marks::GRID, out),
+        _ => read_raw(from, out),
     }
 }
 
 // What a plan's length counts.
-fn read_hopping(
-    ledger: &[u8],
-    place: usize,
-    out: &mut [u8],
-    at: usize,
-) -> Result<Step<usize>, Refusal>
-    requires { LedgerPlaced ledger.now place at }
-    ensures laid { (way : Way) → Laid way ledger.now hopping place at out.old (λ _. end) out.new result }
-    ensures spared { Spared place at result }
+fn read_hopping<'a>(from: Step<'a>, out: &mut [u8]) -> Result<Step<'a>, Refusal>
+    ensures laid { (way : Way) → LaidFrom way from.entry hopping out.old (λ _. end) out.new result }
+    ensures spared { Spared from.entry.place from.entry.at result }
 {
-    let head = read_run(ledger, place, &marks::MODE, out, at)?;
-    let clocks = read_run(ledger, head.place, &marks::CLOCKS, out, head.at)?;
-    read_mode(ledger, clocks.place, head.last, out, clocks.at)
+    let head = read_run(from, &marks::MODE, out)?;
+    let clocks = read_run(head, &marks::CLOCKS, out)?;
+    read_mode(clocks, head.last, out)
 }
 
-// Whether a plan of so many bytes leaves fields and filler of so many bits, by its mode; last: it may end past the
-// data.
+// Whether a plan of so many bytes leaves fields and filler of so many bits, by its mode, which is the
+// number of its field; last: it may end past the data.
 fn leaves_by(last: bool, length: usize, fields: usize, filler: usize, mode: u64) -> bool
     requires { (length ≤ 65535) × (fields ≤ 1000000) × (filler ≤ 1000000) }
     ensures { result ≡ leaves_by last length fields filler mode }
@@ -148,70 +124,68 @@ fn leaves_by(last: bool, length: usize, fields: usize, filler: usize, mode: u64)
 }
 
 // A plan's length. The second edition has it as a field; in the first its bits stay open until the fields are laid.
-fn read_length(
-    edition: Edition,
-    ledger: &[u8],
-    place: usize,
-    out: &mut [u8],
-    at: usize,
-) -> Result<Step<usize>, Refusal>
-    requires { LedgerPlaced ledger.now place at }
-    ensures { Opened edition ledger.now place at out.old out.new result }
+fn read_length<'a>(from: Step<'a>, edition: Edition, out: &mut [u8]) -> Result<Step<'a>, Refusal>
+    requires ahead { from.at + 12 ≤ 8 * from.place }
+    ensures { Opened edition from.entry.ledger.now from.entry.place from.entry.at out.old out.new result }
 {
     match edition {
         Edition::First => Ok(Step {
-            at: at + 12,
-            place,
+            ledger: from.ledger,
+            place: from.place,
+            at: from.at + 12,
             last: 0,
         }),
-        Edition::Second => read_run(ledger, place, &marks::PLAN_LENGTH, out, at),
+        Edition::Second => read_run(from, &marks::PLAN_LENGTH, out),
     }
 }
 
 // The filler of a plan, and the test of its length, its raw bytes and the filler; `start` is the step that came to the
-// plan's length.
-fn read_filler(
-    ledger: &[u8],
-    start: Step<usize>,
-    place: usize,
+// plan's length, and `hopping` the one that came to the filler.
+fn read_filler<'a>(
+    start: Step<'a>,
+    hopping: Step<'a>,
     last: bool,
     out: &mut [u8],
-    at: usize,
-) -> Result<Step<usize>, Refusal>
-    requires ledger_placed { LedgerPlaced ledger.now place at }
-    requires start_bound { (start.at + 12 ≤ at) × (start.place + 3 ≤ place) }
-    ensures { Closed last ledger.now start.place start.at place at out.old out.new result }
+) -> Result<Step<'a>, Refusal>
+    requires start_bound { (start.at + 12 ≤ hopping.at) × (start.place + 3 ≤ hopping.place) }
+    ensures { Closed last hopping.entry.ledger.now start.entry.place start.entry.at
+        hopping.entry.place hopping.entry.at out.old out.new result }
 {
-    let filler = read_raw(ledger, place, out, at)?;
-    let length = get_be(ledger, start.place, 2) as usize;
-    let mode = get_be(ledger, start.place + 3, 1);
-    if leaves_by(last, length, at - (start.at + 12), filler.at - at, mode) {
+    let filler = read_raw(hopping, out)?;
+    let length = get_be(hopping.ledger, start.place, 2) as usize;
+    let mode = get_be(hopping.ledger, start.place + 3, 1);
+    if leaves_by(
+        last,
+        length,
+        hopping.at - (start.at + 12),
+        filler.at - hopping.at,
+        mode,
+    ) {
         return Ok(filler);
     }
-    Err(refused_at(Fault::PlanLengthMisfit, place + 2))
+    Err(refused_at(Fault::PlanLengthMisfit, hopping.place + 2))
 }
 
-// A plan, in an edition; last: none follows it, so that it may end past the data. In the first edition the length is
-// not in the ledger, and is stored once the fields that it counts are laid.
-pub fn read_plan(
-    ledger: &[u8],
-    place: usize,
+// A plan, in an edition, with a byte of the ledger to spare (`ahead`); last: none follows it, so that it may end past
+// the data. In the first edition the length is not in the ledger, and is stored once the fields that it counts are
+// laid.
+pub fn read_plan<'a>(
+    from: Step<'a>,
     edition: Edition,
     last: bool,
     out: &mut [u8],
-    at: usize,
-) -> Result<Step<usize>, Refusal>
-    requires { LedgerPlaced ledger.now place (at + 8) }
-    ensures { Taken (way_of edition last) ledger.now beamhopping place at out.old out.new result }
+) -> Result<Step<'a>, Refusal>
+    requires ahead { from.at + 8 ≤ 8 * from.place }
+    ensures { TakenFrom (way_of edition last) from.entry beamhopping out.old out.new result }
 {
-    let head = read_run(ledger, place, &marks::PLAN, out, at)?;
-    let length = read_length(edition, ledger, head.place, out, head.at)?;
-    let hopping = read_hopping(ledger, length.place, out, length.at)?;
+    let head = read_run(from, &marks::PLAN, out)?;
+    let length = read_length(head, edition, out)?;
+    let hopping = read_hopping(length, out)?;
     match edition {
         Edition::First => {
             lay(out, head.at, 12, ((hopping.at - length.at) / 8) as u64);
             Ok(hopping)
         }
-        Edition::Second => read_filler(ledger, head, hopping.place, last, out, hopping.at),
+        Edition::Second => read_filler(head, hopping, last, out),
     }
 }

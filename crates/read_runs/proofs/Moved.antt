@@ -20,7 +20,7 @@ use Rattle.format.proofs.Good.{Fine, fine_before, whole, laid_nil, laid_num}
 use Rattle.format.proofs.Forms.{kept_form}
 use Rattle.format.proofs.LedgerLaws.{found}
 use Rattle.runs.specs.Lines.{sign_of, width_of, size_of, tested, run, widths_of, sizes_of, head_name, tail_names}
-use Rattle.runs.specs.declared.Step.{Step}
+use Rattle.read_runs.specs.declared.step.Step.{Step}
 use Rattle.write_runs.proofs.WentLaws.{pushes_got}
 use Rattle.read_runs.specs.Came.{Way, some_way, Came, Laid}
 use Rattle.read_runs.proofs.CameLaws.{test_passed}
@@ -49,13 +49,13 @@ run_got ed last n nms v (c ∷ cs) bs {ts} {rest} q =
       r.2 ∙ drop-drop (sizes_of cs) z bs,
     )
 
-pub run_moved : (marks : List ℕ) {l out out' : List ℕ} {place at : ℕ} {x : Step ℕ} → place ≤ length l
+pub run_moved : (marks : List ℕ) {l out out' : List ℕ} {place at : ℕ} {x : Step} → place ≤ length l
     → ((way : Way) (nms : List Name) (k : ℕ → Syntax) → Laid way l (run nms 0 marks k) place at out k out' (Ok x))
     → (x.at ≡ at + widths_of marks) × (x.place ≡ place + sizes_of marks)
 unfolding read_ledger
 run_moved marks {l} {out} {out'} {place} {at} {x} h y =
     let p : ℕ = x.place in
-    let w : Came some_way l (run [] 0 marks (λ _. end)) place at out end p x.at out' = (y some_way [] (λ _. end)).to in
+    let w : Came some_way l (run [] 0 marks (λ _. end)) place at out end p x.at out' = (y some_way [] (λ _. end)).to.came in
     let g = run_got some_way.edition some_way.last (length l) [] 0 marks (drop place l) (w.reads ∙ pushes_got w.ts (drop p l)) in (
       omega (arith, w.size, g.0),
       omega (arith, g.1, ap length g.2, w.within, length-drop p l, length-drop place l, length-drop (sizes_of marks) (drop place l)),

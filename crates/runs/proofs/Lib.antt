@@ -1,3 +1,4 @@
 pub mod MarkLaws
 pub mod Names
 pub mod Stores
+pub mod FlagLaws

@@ -1,11 +1,14 @@
 -- What a field is, by its mark.
 -- Assumes nothing.
 use Prim.Native.Nat.{ℕ, zero, suc, ◌+◌, ◌-◌, ◌*◌, ◌%◌, ◌^◌, ◌≤◌, ◌<◌}
-use mathlib.Core.Path.{◌≡◌, refl}
+use mathlib.Core.Path.{◌≡◌, refl, sym}
 use mathlib.Core.Bool.{Bool, true, false, cond, ◌&&◌, ◌||◌}
 use mathlib.Core.List.{List, [], ◌∷◌}
 use native.Mathlib.Omega.{arith}
 use Rattle.std.proofs.Common.{Some, None}
+use Rattle.std.proofs.lemmas.Bool.{cond_both}
+use Rattle.std.proofs.lemmas.Nat.{one_shl}
+use Rattle.std.proofs.lemmas.Option.{cond_some}
 use lib.Dec.{T, leb, ltb, eqb, leb→le, le→leb}
 use lib.ListN.{length, get_or}
 use lib.Pow.{pow_mono}
@@ -13,7 +16,6 @@ use borrow.Author.Tests.{le-leb, lt-leb, le-ltb, lt-ltb, ltb-true, leb-true, leb
 use Rattle.format.specs.Syntax.{Sign, unsigned, signed}
 use Rattle.format.specs.Ledger.{size}
 use Rattle.format.proofs.Good.{widest}
-use Rattle.bits.proofs.Values.{one_shl}
 use Rattle.runs.specs.Lines.{ext, sign_of, width_of, size_of, shown_of, ext_of, size_for, mark_ok, marks_ok}
 
 -- at least one bit and byte, at most 64 bits and 8 bytes; no more bytes than bits, and room for the bits
@@ -30,18 +32,14 @@ both : (a b : Bool) → T (a && b) → T a × T b
 both true b h = (tt, h)
 both false b h = absurd h
 
-cases : (P : ℕ → Type 0) (t : Bool) (a b : ℕ) → (t ≡ true → P a) → (t ≡ false → P b) → P (cond t a b)
-cases P true a b y z = y refl
-cases P false a b y z = z refl
-
 abbrev Sized : ℕ → ℕ → Type 0
 Sized w n = (1 ≤ n) × (n ≤ 8) × (n ≤ w) × (w ≤ 8 * n)
 
 sizes : (w : ℕ) → 1 ≤ w → w ≤ 64 → Sized w (size unsigned w)
 sizes w h m =
-    cases (Sized w) (leb w 8) 1 _ (λ p. omega (arith, leb-true w 8 p))
-    (λ p. cases (Sized w) (leb w 16) 2 _ (λ q. omega (arith, leb-false w 8 p, leb-true w 16 q))
-    (λ q. cases (Sized w) (leb w 32) 4 8 (λ r. omega (arith, leb-false w 16 q, leb-true w 32 r)) (λ r. omega (arith, leb-false w 32 r))))
+    cond_both (leb w 8) 1 _ (Sized w) (λ p. omega (arith, leb-true w 8 p))
+    (λ p. cond_both (leb w 16) 2 _ (Sized w) (λ q. omega (arith, leb-false w 8 p, leb-true w 16 q))
+    (λ q. cond_both (leb w 32) 4 8 (Sized w) (λ r. omega (arith, leb-false w 16 q, leb-true w 32 r)) (λ r. omega (arith, leb-false w 32 r))))
 
 abbrev Facts : Sign → ℕ → Type 0
 Facts g w = (1 ≤ w) × (w ≤ 64) × Sized w (size g w) × T (leb w (widest g))
@@ -87,8 +85,8 @@ powers c h m = go (ltb c 128) refl h
         record {
           most = l;
           some = omega arith;
-          whole = one_shl (c - 128) (omega arith);
-          half = one_shl (c - 128 - 1) (omega arith);
+          whole = one_shl (c - 128) 64 (omega arith);
+          half = one_shl (c - 128 - 1) 64 (omega arith);
           small = pow_mono l;
           width = rw (le-ltb c 128 m);
         }
@@ -170,8 +168,6 @@ sized_no c v e = go (leb (ext_of c v) 299) refl e
 
 pub sized_yes : (c v : ℕ) {z : ℕ} → Some z ≡ size_for c v → (ext_of c v ≤ 299) × (z ≡ size_of c)
 unfolding size_for
-sized_yes c v {z} e = go (leb (ext_of c v) 299) refl e
-  where
-    go : (t : Bool) → leb (ext_of c v) 299 ≡ t → Some z ≡ cond t (Some (size_of c)) None → (ext_of c v ≤ 299) × (z ≡ size_of c)
-    go true l r = (leb-true (ext_of c v) 299 l, cc)
-    go false l r = absurd (cc)
+sized_yes c v {z} e =
+    let q = cond_some (leb (ext_of c v) 299) (size_of c) z (sym e) in
+    (leb-true (ext_of c v) 299 q.0, sym q.1)

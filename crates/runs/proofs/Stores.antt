@@ -2,12 +2,12 @@
 -- Assumes nothing.
 use Prim.Native.Nat.{ℕ, ◌+◌, ◌≤◌, ◌<◌}
 use mathlib.Core.Path.{◌≡◌, refl}
-use mathlib.Core.Bool.{Bool, true, false, cond}
 use mathlib.Core.List.{List}
 use native.Mathlib.Omega.{arith}
 use lib.Dec.{leb}
 use lib.ListN.{length}
 use borrow.Author.Tests.{le-leb, lt-leb, leb-true}
+use Rattle.std.proofs.lemmas.Bool.{cond_both}
 use Rattle.format.specs.Digits.{digits, splice}
 use Rattle.format.proofs.DigitLaws.{length_digits}
 use Rattle.bits.proofs.Splices.{length_splice}
@@ -25,11 +25,9 @@ stored_short out at xs h = rw (lt-leb (at + length xs) (length out) h)
 -- the buffer is as long as it was
 pub stored_length : (out : List ℕ) (at : ℕ) (xs : List ℕ) → length (stored out at xs) ≡ length out
 unfolding stored
-stored_length out at xs = go (leb (at + length xs) (length out)) (leb-true (at + length xs) (length out))
-  where
-    go : (t : Bool) → (t ≡ true → at + length xs ≤ length out) → length (cond t (splice out at xs) out) ≡ length out
-    go true h = length_splice out at xs (h refl)
-    go false h = refl
+stored_length out at xs =
+    cond_both (leb (at + length xs) (length out)) (splice out at xs) out (λ (o : List ℕ). length o ≡ length out)
+    (λ e. length_splice out at xs (leb-true (at + length xs) (length out) e)) (λ _. refl)
 
 -- k digits, where there is room for them
 pub digits_fit : (out : List ℕ) (at k v : ℕ) → at + k ≤ length out → stored out at (digits 256 k v) ≡ splice out at (digits 256 k v)

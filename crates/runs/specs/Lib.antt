@@ -1,4 +1,4 @@
-pub mod Steps
+pub mod Ends
 pub mod Lines
 pub mod Stored
 pub mod Flagged

@@ -9,24 +9,24 @@ use marks::EXT;
 
 pub mod marks;
 
-// Where a step over fields came to: its place in the body, in bits, its place in the ledger, and the last field's
-// number. Places of a body that is read fit 16 bits; one that is laid may be longer before it is refused.
+// Where a run of fields ended: its place in the ledger, its place in the body, in bits, and the last field's number.
+// Places of a body that is read fit 16 bits; one that is laid may be longer before it is refused.
 // The order of the fields is for speed: with `at` first, writing takes up to 3 % more instructions.
 #[derive(Clone, Copy)]
-pub struct Step<P> {
+pub struct RunEnd<P> {
     pub place: usize,
     pub at: P,
     pub last: u64,
 }
 
-// The flags of a satellite of id 4, which say what follows them; 1 is set.
+// The flags of a satellite of id 4, which say what follows them.
 #[derive(Clone, Copy)]
 pub struct Flags {
-    pub metadata: u64,
-    pub start: u64,
-    pub stop: u64,
-    pub acceleration: u64,
-    pub covariance: u64,
+    pub metadata: bool,
+    pub start: bool,
+    pub stop: bool,
+    pub acceleration: bool,
+    pub covariance: bool,
 }
 
 // The bits of a field in a body.

@@ -1,6 +1,9 @@
 // The runs of fields that the tables are made of, each with its marks: a field's bits, and 128 more where it is signed,
 // or where its number is tested, as a clock's extension is in a body.
 // A run stands here once, for both directions of the ledger; the comment above it names its fields in their order.
+// Marks are plain bytes, and that they are valid is required (`valid`): a constant's invariant is shown where it is
+// passed, as the `requires` is, and a loop would show it of each mark it takes out. As bytes they cost least
+// (docs/DECISIONS.md).
 
 // A clock's extension: 9 bits, tested. A clock is three marks: 33, 6, EXT.
 pub const EXT: u8 = 137;

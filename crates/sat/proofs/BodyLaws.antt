@@ -52,7 +52,7 @@ module _ (b : List ℕ) (x : SatBody) (p : Part) where
     where
       go : (r : Parse (List Field)) → made (8 * length b) (λ ts q. Ok (TimeAssociation (association_of ts))) Err r ≡ Ok x → Within b n p
       go (got ts rest) z = let y : TimeAssociation (association_of ts) ≡ x = cc in absurd (rw (← y) at l)
-      go (refused u v w) z = let o : ◌≡◌ {A = ℕ} 0 1 = cc in absurd (omega arith)
+      go (refused u v w) z = absurd cc
   typed_within (suc (suc (suc zero))) n e h z l =
       let y : BeamhoppingTimePlan (record { plans = list_part 0 e n }) ≡ x = cc in
       list_within n 0 e (omega arith) h (rw (← y) at l)
@@ -63,7 +63,7 @@ module _ (b : List ℕ) (x : SatBody) (p : Part) where
           let q : ℕ = 8 * length b - length rest in
           let y : PositionV3 (position3_of ts (list_part q e n)) ≡ x = cc in
           list_within n q e (omega arith) h (rw (← y) at l)
-      go (refused u v w) z = let o : ◌≡◌ {A = ℕ} 0 1 = cc in absurd (omega arith)
+      go (refused u v w) z = absurd cc
   typed_within (suc (suc (suc (suc (suc i))))) n e h z l = let y : Raw (raw_part b) ≡ x = cc in absurd (rw (← y) at l)
 
 -- the part's count is what `entry_count` gives, and the part lies within the body
@@ -77,7 +77,7 @@ body_counts id b x p z l = go (body_starts id b) z
     go (got ls rest) z =
         let w = typed_within b x p id (length ls) (8 * length b - length rest) (omega arith) z l in
         (ap Ok w.counts, w.lies)
-    go (refused u v w) z = let o : ◌≡◌ {A = ℕ} 0 1 = cc in absurd (omega arith)
+    go (refused u v w) z = absurd cc
 
 -- ---- refusals
 
@@ -85,22 +85,22 @@ module _ (b : List ℕ) {f : Refusal} {ls rest : List ℕ} where
   -- what starts a body whose entries are found is read, and so not refused
   started : (t : Bool) (r : Parse (List Field)) (k : List Field → List ℕ → Parse (List ℕ)) (x : List Field → ℕ → SatBody)
       → cond t (and_then r k) (refused BodyTooLong (length b) 4096) ≡ got ls rest → made (8 * length b) (λ ts q. Ok (x ts q)) Err r ≡ Err f → ⊥
-  started true (got ts over) k x y z = let o : ◌≡◌ {A = ℕ} 0 1 = cc in absurd (omega arith)
-  started true (refused u v w) k x y z = let o : ◌≡◌ {A = ℕ} 0 1 = cc in absurd (omega arith)
-  started false r k x y z = let o : ◌≡◌ {A = ℕ} 0 1 = cc in absurd (omega arith)
+  started true (got ts over) k x y z = absurd cc
+  started true (refused u v w) k x y z = absurd cc
+  started false r k x y z = absurd cc
 
   typed_not : (id n e : ℕ) → body_starts id b ≡ got ls rest → typed_body id b n e ≡ Err f → ⊥
   unfolding body_starts starts_as typed_body association_body position3_body read
-  typed_not zero n e y z = let o : ◌≡◌ {A = ℕ} 0 1 = cc in absurd (omega arith)
-  typed_not (suc zero) n e y z = let o : ◌≡◌ {A = ℕ} 0 1 = cc in absurd (omega arith)
+  typed_not zero n e y z = absurd cc
+  typed_not (suc zero) n e y z = absurd cc
   typed_not (suc (suc zero)) n e y z =
       started (leb (length b) 4096) (read_body (8 * length b) 0 tables.association (bits_of b)) (λ ts over. got (0 ∷ []) [])
       (λ ts q. TimeAssociation (association_of ts)) y z
-  typed_not (suc (suc (suc zero))) n e y z = let o : ◌≡◌ {A = ℕ} 0 1 = cc in absurd (omega arith)
+  typed_not (suc (suc (suc zero))) n e y z = absurd cc
   typed_not (suc (suc (suc (suc zero)))) n e y z =
       started (leb (length b) 4096) (read_body (8 * length b) 0 tables.header (bits_of b))
       (λ hs over. starts (8 * length b) 32 tables.position3 (length over) over) (λ ts q. PositionV3 (position3_of ts (list_part q e n))) y z
-  typed_not (suc (suc (suc (suc (suc i))))) n e y z = let o : ◌≡◌ {A = ℕ} 0 1 = cc in absurd (omega arith)
+  typed_not (suc (suc (suc (suc (suc i))))) n e y z = absurd cc
 
 -- refused exactly when the number of entries is, and alike
 pub body_refused : (id : ℕ) (b : List ℕ) {f : Refusal} → sat_body_of id b ≡ Err f → count_of id b ≡ Err f
@@ -117,5 +117,5 @@ unfolding sat_body_of count_of seek
 count_refused id b {f} z = go (body_starts id b) z
   where
     go : (y : Parse (List ℕ)) → seek b 0 (λ n p e. Ok n) Err y ≡ Err f → seek b 0 (λ n p e. typed_body id b n e) Err y ≡ Err f
-    go (got ls rest) z = let o : ◌≡◌ {A = ℕ} 0 1 = cc in absurd (omega arith)
+    go (got ls rest) z = absurd cc
     go (refused u v w) z = let o : refuse u v w ≡ f = cc in ap Err o

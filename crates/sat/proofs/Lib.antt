@@ -1,3 +1,4 @@
 pub mod Made
+pub mod Typed
 pub mod Indexed
 pub mod BodyLaws

@@ -5,7 +5,6 @@ use mathlib.Core.Path.{◌≡◌, refl, sym, ap, ◌∙◌}
 use mathlib.Core.Bool.{Bool, true, false, cond}
 use mathlib.Core.List.{List, [], ◌∷◌}
 use lib.Dec.{leb}
-use native.Mathlib.Omega.{arith}
 use lib.ListN.{length}
 use Rattle.std.specs.Prelude.{slice_get, Option, Some, None, Result, Ok, Err}
 use Rattle.format.specs.Syntax.{Field, Parse, got, refused, and_then}
@@ -35,14 +34,14 @@ module _ {A : Type 0} {x : A} (b : List ℕ) (i : ℕ) (found : ℕ → Option �
           let y2 : w.place ≡ slice_get ls i = cc in
           let y3 : w.end ≡ 8 * length b - length rest = cc in
           q ∙ ap (λ (a : ℕ). found a w.place w.end) y1 ∙ ap (λ (a : Option ℕ). found (length ls) a w.end) y2 ∙ ap (found (length ls) (slice_get ls i)) y3
-      go (refused u v t) z = let o : ◌≡◌ {A = ℕ} 0 1 = cc in absurd (omega arith)
+      go (refused u v t) z = absurd cc
 
   pub walked_off : {r : Result Walk Refusal} {f : Refusal} → r ≡ seek b i walked Err ps → r ≡ Err f → x ≡ fail f → x ≡ seek b i found fail ps
   unfolding seek
   walked_off {r} {f} h m q = go ps (sym m ∙ h)
     where
       go : (y : Parse (List ℕ)) → Err f ≡ seek b i walked Err y → x ≡ seek b i found fail y
-      go (got ls rest) z = let o : ◌≡◌ {A = ℕ} 0 1 = cc in absurd (omega arith)
+      go (got ls rest) z = absurd cc
       go (refused x1 x2 x3) z = q ∙ ap fail (let y : f ≡ _ = cc in y)
 
 -- what holds of the place that was handed out
@@ -75,6 +74,6 @@ first_place {r} {w} {p} b i h m k = go (leb (length b) 4096) (read_body (8 * len
   where
     go : (t : Bool) (x : Parse (List Field)) (j : ℕ) → Ok w ≡ seek b j walked Err (cond t (and_then x (λ ts rest. got (0 ∷ []) [])) (refused BodyTooLong (length b) 4096)) → p ≡ 0
     go true (got ts rest) zero z = let y : w.place ≡ Some 0 = cc in cc
-    go true (got ts rest) (suc j) z = let y : w.place ≡ None = cc in let o : ◌≡◌ {A = ℕ} 0 1 = cc in absurd (omega arith)
-    go true (refused u v t) j z = let o : ◌≡◌ {A = ℕ} 0 1 = cc in absurd (omega arith)
-    go false x j z = let o : ◌≡◌ {A = ℕ} 0 1 = cc in absurd (omega arith)
+    go true (got ts rest) (suc j) z = let y : w.place ≡ None = cc in absurd cc
+    go true (refused u v t) j z = absurd cc
+    go false x j z = absurd cc

@@ -3,12 +3,12 @@
 #![tactic(auto)]
 
 ghost use Rattle.std.specs.Prelude.{◌≡◌, ◌%◌, ◌≤◌, length};
-ghost use Rattle.bits.specs.Read.{Place};
 ghost use Rattle.entries.specs.Entries.{head_end};
 ghost use Rattle.sat.specs.Sat.{count_of, header_of_body, raw_part, typed_at, entry_of};
 ghost use Rattle.sat.specs.SatBody.{list_part, position3_body, typed_body, sat_body_of};
 
 use association::{TimeAssociationBody, read_association};
+use bits::Cursor;
 use entries::walk_body;
 use format::Refusal;
 use fragment::{CellFragment, read_fragment};
@@ -97,18 +97,18 @@ fn raw_part(s: &[u8]) -> Part
     }
 }
 
-// The entry of a table at a place.
-fn typed_entry(table_id: u8, s: &[u8], at: u16) -> Result<SatEntry, Refusal>
-    requires { (Place s.now at × (at % 8 ≡ 0)) × (table_id ≡ 2 → at ≡ 0) }
-    ensures { result ≡ typed_at table_id s.now at }
+// The entry of a table at a place, which starts a byte (see `Cursor`).
+fn typed_entry(table_id: u8, from: Cursor<'_>) -> Result<SatEntry, Refusal>
+    requires { (from.at % 8 ≡ 0) × (table_id ≡ 2 → from.at ≡ 0) }
+    ensures { result ≡ typed_at table_id from.entry.body.now from.entry.at }
 {
     match table_id {
-        0 => Ok(SatEntry::PositionV2(read_satellite(s, at)?.value)),
-        1 => Ok(SatEntry::CellFragment(read_fragment(s, at)?.value)),
-        2 => Ok(SatEntry::TimeAssociation(read_association(s)?.value)),
-        3 => Ok(SatEntry::BeamhoppingTimePlan(read_plan(s, at)?.value)),
-        4 => Ok(SatEntry::PositionV3(read_satellite_v3(s, at)?.value)),
-        _ => Ok(SatEntry::Raw(raw_part(s))),
+        0 => Ok(SatEntry::PositionV2(read_satellite(from)?.value)),
+        1 => Ok(SatEntry::CellFragment(read_fragment(from)?.value)),
+        2 => Ok(SatEntry::TimeAssociation(read_association(from.body)?.value)),
+        3 => Ok(SatEntry::BeamhoppingTimePlan(read_plan(from)?.value)),
+        4 => Ok(SatEntry::PositionV3(read_satellite_v3(from)?.value)),
+        _ => Ok(SatEntry::Raw(raw_part(from.body))),
     }
 }
 
@@ -118,7 +118,7 @@ pub fn entry_at(table_id: u8, body: &[u8], index: usize) -> Result<Option<SatEnt
 {
     let walk = walk_body(table_id, body, index)?;
     match walk.place {
-        Some(at) => Ok(Some(typed_entry(table_id, body, at)?)),
+        Some(at) => Ok(Some(typed_entry(table_id, Cursor { body, at })?)),
         None => Ok(None),
     }
 }
@@ -155,6 +155,7 @@ fn position_v3_body(s: &[u8], count: usize, end: u16) -> Result<SatBody, Refusal
 }
 
 // The same under any id.
+#[tactic(auto, unfolding(crate::specs::SatBody::typed_body))]
 fn typed_body(table_id: u8, s: &[u8], count: usize, end: u16) -> Result<SatBody, Refusal>
     requires { (length s.now ≤ 4096) × (head_end table_id s.now ≤ end) }
     ensures { result ≡ typed_body table_id s.now count end }

@@ -8,6 +8,7 @@ use list_text::Listing;
 use std::alloc::Global;
 use std::io;
 use std::io::{BufReader, BufWriter, ErrorKind, Read, Stdout, Write};
+use std::process::ExitCode;
 
 mod case;
 mod input;
@@ -43,14 +44,24 @@ fn run(rt: &HostRuntime, to: &mut BufWriter<Stdout>) -> io::Result<()> {
     to.flush()
 }
 
-// Where the output cannot be written the program stops, and tries no more of it. That memory ran out it tells.
-fn main(rt: HostRuntime) -> io::Result<()> {
+// Where the output cannot be written the program stops, and tries no more of it.
+fn list(rt: &HostRuntime) -> io::Result<()> {
     let mut to = BufWriter::new(rt.alloc(), rt.stdout())?;
-    if let Err(e) = run(&rt, &mut to) {
+    let listed = run(rt, &mut to);
+    if listed.is_err() {
         let _ = to.into_parts();
-        if e.kind() == ErrorKind::OutOfMemory {
-            return Err(e);
-        }
     }
-    Ok(())
+    listed
+}
+
+// That memory ran out the program tells, in words of its own: the library's text of an error would be one thing more to
+// trust.
+fn main(rt: HostRuntime) -> ExitCode {
+    match list(&rt) {
+        Err(e) if e.kind() == ErrorKind::OutOfMemory => {
+            let _ = rt.stderr().write_all(b"sat_entries: out of memory\n");
+            ExitCode::FAILURE
+        }
+        _ => ExitCode::SUCCESS,
+    }
 }

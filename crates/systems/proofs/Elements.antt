@@ -30,7 +30,7 @@ use Rattle.systems.specs.declared.System.{System}
 
 both : (x y : Bool) → x && y ≡ true → (x ≡ true) × (y ≡ true)
 both true y h = (refl, h)
-both false y h = let z : ◌≡◌ {A = ℕ} 0 1 = cc in absurd (omega arith)
+both false y h = absurd cc
 
 -- what `within` says where it holds
 pub record Within (len start count size index : ℕ) : Type 0 where

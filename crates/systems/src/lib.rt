@@ -2,10 +2,9 @@
 #![tactic(auto)]
 
 ghost use Rattle.std.specs.Prelude.{◌≡◌, ◌≤◌};
-ghost use Rattle.bits.specs.Read.{Place};
 ghost use Rattle.systems.specs.Systems.{systems_at, place_of, system_at, id_at, new_at, obsolescent_at};
 
-use bits::value_at;
+use bits::{Cursor, value_at};
 use clocks::{Clock, clock_within};
 use format::{Fault, Found, Refusal};
 use parts::{Part, read_part};
@@ -35,13 +34,13 @@ struct System {
 
 // A count of 10 bits, and behind it so many systems: refused with a fault of the caller's where they pass the end,
 // and then by the first of their clocks that is refused.
-pub fn read_systems(s: &[u8], at: u16, fault: Fault) -> Result<Found<Part>, Refusal>
-    requires { Place s.now at }
-    ensures { result ≡ systems_at s.now fault at }
+pub fn read_systems(from: Cursor<'_>, fault: Fault) -> Result<Found<Part>, Refusal>
+    ensures { result ≡ systems_at from.entry.body.now fault from.entry.at }
 {
-    let list = read_part(s, at, fault, 80)?;
+    let list = read_part(from, fault, 80)?;
     for i in 0..list.value.count {
-        clock_within(s, (at as usize + 10 + 80 * i + 32) as u16)?;
+        let at = (from.at as usize + 10 + 80 * i + 32) as u16;
+        clock_within(from.to(at))?;
     }
     Ok(list)
 }
@@ -76,7 +75,7 @@ fn system_at(body: &[u8], part: Part, index: usize) -> Option<System>
     ensures { result ≡ system_at body.now part index }
 {
     let at = place_at(body.len(), part, 10, index)?;
-    let time = clock_within(body, at + 32).ok()?;
+    let time = clock_within(Cursor { body, at: at + 32 }).ok()?;
     Some(System {
         id: value_at(body, at, 32) as u32,
         time: time.value,

@@ -1,7 +1,7 @@
 -- Slots and raw bytes gone over, and the last fields of a plan.
 -- Assumes nothing.
 use Prim.Native.Nat.{ℕ, ◌+◌, ◌-◌, ◌*◌, ◌/◌, ◌%◌, ◌≤◌, ◌<◌}
-use mathlib.Core.Path.{◌≡◌, refl, sym, ap, ◌∙◌}
+use mathlib.Core.Path.{◌≡◌, refl, sym, ap, ◌∙◌, subst}
 use mathlib.Core.Bool.{Bool, true, false, cond}
 use mathlib.Core.List.{List, [], ◌∷◌, ◌++◌, append-nil}
 use native.Mathlib.Omega.{arith}
@@ -22,8 +22,8 @@ use Rattle.format.proofs.ReadLaws.{rest_at, place_at}
 use Rattle.bits.proofs.Splices.{splice_splice, splice_nil}
 use Rattle.runs.specs.Stored.{stored}
 use Rattle.format.specs.declared.Refusal.{Refusal}
-use Rattle.runs.specs.declared.Step.{Step}
 use Rattle.runs.proofs.Stores.{stored_length, digits_fit}
+use Rattle.write_runs.specs.declared.step.Step.{Step}
 use Rattle.write_runs.specs.Went.{Around, pushes, Went, Stopped, Ran}
 use Rattle.write_runs.proofs.WentLaws.{Same, pushes_append, pushes_got, pushes_refused}
 use Rattle.write_plans.specs.Slots.{filled_bits, packed_bits}
@@ -130,52 +130,61 @@ raw_done {body} {out} {out'} {e} {at} {place} {m} nm h q r x =
 -- ---- a plan's last fields
 
 module _ {body : List ℕ} {e : Around} where
-  pub as_ragged : {at place : ℕ} {s : Syntax} {out out' : List ℕ} {r : Result (Step ℕ) Refusal} → Ran body e s at place out (λ _. end) out' r → Ragged body e s at place out out' r
+  pub as_ragged : {at place : ℕ} {s : Syntax} {out out' : List ℕ} {r : Result Step Refusal} → Ran body e s at place out (λ _. end) out' r → Ragged body e s at place out out' r
   unfolding read_body
   as_ragged {r = Ok v} x =
-      let w = x.to in
+      let w = x.to.1 in
       record {
-        to = record {
-          ts = w.ts;
-          reads = w.reads ∙ pushes_got w.ts (drop v.at (bits_of body));
-          size = w.size;
-          bytes = w.bytes;
-          long = w.long;
-          within = w.within;
-          slack = omega (arith, w.slack);
-        };
+        to = (
+          x.to.0,
+          record {
+            ts = w.ts;
+            reads = w.reads ∙ pushes_got w.ts (drop v.at (bits_of body));
+            size = w.size;
+            bytes = w.bytes;
+            long = w.long;
+            within = w.within;
+            slack = omega (arith, w.slack);
+          },
+        );
       }
   as_ragged {r = Err f} x = record { to = x.to }
 
   -- the reading starts in the same way
-  pub ragged_as : {at place : ℕ} {s s₁ : Syntax} {out out' : List ℕ} {r : Result (Step ℕ) Refusal} → Same body e at s s₁ → Ragged body e s₁ at place out out' r → Ragged body e s at place out out' r
+  pub ragged_as : {at place : ℕ} {s s₁ : Syntax} {out out' : List ℕ} {r : Result Step Refusal} → Same body e at s s₁ → Ragged body e s₁ at place out out' r → Ragged body e s at place out out' r
   ragged_as {r = Ok v} q x =
-      let t = x.to in
-      record { to = record { ts = t.ts; reads = q.reads ∙ t.reads; size = t.size; bytes = t.bytes; long = t.long; within = t.within; slack = t.slack } }
+      let t = x.to.1 in
+      record { to = (x.to.0, record { ts = t.ts; reads = q.reads ∙ t.reads; size = t.size; bytes = t.bytes; long = t.long; within = t.within; slack = t.slack }) }
   ragged_as {r = Err f} q x = record { to = record { reads = q.reads ∙ x.to.reads } }
 
   -- the last fields behind others that have two bits to spare
-  pub then_ragged : {at place at₁ place₁ : ℕ} {s s₁ : Syntax} {out out₁ out₂ : List ℕ} {r : Result (Step ℕ) Refusal} → Went body e s at place out s₁ at₁ place₁ out₁
-      → place₁ + at + 2 ≤ place + at₁ → Ragged body e s₁ at₁ place₁ out₁ out₂ r → Ran body e s at place out (λ _. end) out₂ r
+  behind_tail : {at place at₁ place₁ at₂ place₂ : ℕ} {s s₁ : Syntax} {out out₁ out₂ : List ℕ} → Went body e s at place out s₁ at₁ place₁ out₁
+      → place₁ + at + 2 ≤ place + at₁ → Tail body e s₁ at₁ place₁ out₁ at₂ place₂ out₂ → Went body e s at place out end at₂ place₂ out₂
   unfolding read_body
-  then_ragged {at} {place} {at₁} {place₁} {s} {s₁} {out} {out₁} {out₂} {r = Ok v} x g y =
-      let t = y.to in
+  behind_tail {at} {place} {at₁} {place₁} {at₂} {place₂} {s} {s₁} {out} {out₁} {out₂} x g t =
       let u = x.ts in
       let w = t.ts in
       let l = ap length (ledger_append e.edition u w) ∙ length-append (ledger e.edition u) (ledger e.edition w) in
       let z = x.size in
       let z' = t.size in
       record {
-        to = record {
-          ts = u ++ w;
-          reads = x.reads ∙ ap (pushes u) (t.reads ∙ sym (pushes_got w (drop v.at (bits_of body)))) ∙ sym (pushes_append u w _);
-          size = omega arith;
-          bytes = λ h. t.bytes (omega (arith, x.long)) ∙ ap (λ (m : List ℕ). splice m place₁ (ledger e.edition w)) (x.bytes (omega arith))
-              ∙ splice_splice out place (ledger e.edition u) (ledger e.edition w) place₁ x.size (omega arith) ∙ ap (splice out place) (sym (ledger_append e.edition u w));
-          long = t.long ∙ x.long;
-          within = t.within;
-          slack = omega (arith, t.slack);
-        };
+        ts = u ++ w;
+        reads = x.reads ∙ ap (pushes u) (t.reads ∙ sym (pushes_got w (drop at₂ (bits_of body)))) ∙ sym (pushes_append u w _);
+        size = omega arith;
+        bytes = λ h. t.bytes (omega (arith, x.long)) ∙ ap (λ (m : List ℕ). splice m place₁ (ledger e.edition w)) (x.bytes (omega arith))
+            ∙ splice_splice out place (ledger e.edition u) (ledger e.edition w) place₁ x.size (omega arith) ∙ ap (splice out place) (sym (ledger_append e.edition u w));
+        long = t.long ∙ x.long;
+        within = t.within;
+        slack = omega (arith, t.slack);
       }
-  then_ragged {r = Err f} x g y =
+
+  behind_ragged : {at place at₁ place₁ : ℕ} {s s₁ : Syntax} {out out₁ out₂ : List ℕ} {r : Result Step Refusal} → Went body e s at place out s₁ at₁ place₁ out₁
+      → place₁ + at + 2 ≤ place + at₁ → Ragged body e s₁ at₁ place₁ out₁ out₂ r → Ran body e s at place out (λ _. end) out₂ r
+  behind_ragged {r = Ok v} x g y = record { to = (y.to.0, behind_tail x g y.to.1) }
+  behind_ragged {r = Err f} x g y =
       record { to = record { reads = x.reads ∙ ap (pushes x.ts) y.to.reads ∙ pushes_refused x.ts f.fault f.need f.have } }
+
+  pub then_ragged : {at place : ℕ} {s : Syntax} {out out₁ out₂ : List ℕ} {k : ℕ → Syntax} {x : Step} {r : Result Step Refusal} → Ran body e s at place out k out₁ (Ok x)
+      → x.place + at + 2 ≤ place + x.at → Ragged x.body.now e (k x.last) x.at x.place out₁ out₂ r → Ran body e s at place out (λ _. end) out₂ r
+  then_ragged {out₁ = out₁} {out₂} {k} {x} {r} y g t =
+      behind_ragged y.to.1 g (subst (λ (b : List ℕ). Ragged b e (k x.last) x.at x.place out₁ out₂ r) y.to.0 t)

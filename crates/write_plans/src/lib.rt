@@ -8,18 +8,18 @@ ghost use Rattle.format.specs.Ledger.{counted_bytes};
 ghost use Rattle.format.specs.Tables.{bitmap, mode, hopping, beamhopping};
 ghost use Rattle.format.specs.declared.Fault.TheVariants.{SlotsCut};
 ghost use Rattle.runs.specs.Stored.{stored};
-ghost use Rattle.write_runs.specs.Went.{Around, outside, inside, Placed, Ran};
+ghost use Rattle.write_runs.specs.Went.{Around, outside, inside, RanFrom};
 ghost use Rattle.write_plans.specs.Appended.{Appended};
 ghost use Rattle.write_plans.specs.Ragged.{Ragged};
 ghost use Rattle.write_plans.specs.Slots.{packed_bits};
 
-use bits::{read_u, value_at};
+use bits::{Cursor, read_u, value_at};
 use format::{Edition, Fault, Refusal};
-use runs::{Step, marks};
-use write_runs::{put, write_needed, write_run};
+use runs::marks;
+use write_runs::{Step, enough, put, write_needed, write_run};
 
 // m bits of a body as bytes, the last one filled up with zeros, where there is room for all of them; whole bytes are
-// copied.
+// copied. By places, since no field is gone over that a step could tell of; so is `write_length`.
 fn write_bits(body: &[u8], at: u16, m: usize, out: &mut [u8], place: usize)
     requires { (length body.now ≤ 4096) × (at + m ≤ 8 * length body.now) × (place ≤ 40000) }
     ensures { out.new ≡ stored out.old place (packed_bits body.now at m) }
@@ -40,32 +40,19 @@ fn write_bits(body: &[u8], at: u16, m: usize, out: &mut [u8], place: usize)
     }
 }
 
-// Slots: so many single bits, and padding to the byte.
-fn write_slots(
-    body: &[u8],
-    at: u16,
-    m: usize,
-    out: &mut [u8],
-    place: usize,
-) -> Result<Step<u16>, Refusal>
-    requires placed { Placed body.now at place }
-    requires at_value { (at % 8 ≡ 0) × (m < 32768) }
+// Slots: so many single bits from a byte on (`at_value`; see `Step`), and padding to the byte.
+fn write_slots<'a>(from: Step<'a>, m: usize, out: &mut [u8]) -> Result<Step<'a>, Refusal>
+    requires at_value { (from.at % 8 ≡ 0) × (m < 32768) }
     ensures { (e : Around) (nm : Name) (s : Syntax)
-        → Ran body.now e (slots nm SlotsCut m s) at place out.old (λ _. s) out.new result }
+        → RanFrom from.entry e (slots nm SlotsCut m s) out.old (λ _. s) out.new result }
 {
-    let have = 8 * body.len() - at as usize;
-    if have < m {
-        return Err(Refusal {
-            fault: Fault::SlotsCut,
-            need: m,
-            have,
-        });
-    }
-    write_bits(body, at, m, out, place);
+    enough(from, Fault::SlotsCut, m)?;
+    write_bits(from.body, from.at, m, out, from.place);
     let whole = (m + 7) / 8;
     Ok(Step {
-        at: (at as usize + 8 * whole) as u16,
-        place: place + whole,
+        body: from.body,
+        place: from.place + whole,
+        at: (from.at as usize + 8 * whole) as u16,
         last: 0,
     })
 }
@@ -81,91 +68,68 @@ fn raw_bits(at: u16, stop: u16, n: usize) -> usize
 }
 
 // Whole bytes of a body, given in bits, behind their count; the place behind them.
-fn write_bytes(body: &[u8], at: u16, m: usize, out: &mut [u8], place: usize) -> usize
-    requires { (length body.now ≤ 4096) × (at + m ≤ 8 * length body.now) × (m % 8 ≡ 0) × (place ≤ 39000) }
-    ensures { Appended out.old place (counted_bytes (take m (drop at (bits_of body.now)))) out.new result }
+fn write_bytes(from: Step, m: usize, out: &mut [u8]) -> usize
+    requires { (from.at + m ≤ 8 * length from.body.now) × (m % 8 ≡ 0) }
+    ensures { Appended out.old from.entry.place
+        (counted_bytes (take m (drop from.entry.at (bits_of from.entry.body.now)))) out.new result }
 {
-    put(out, place, 2, (m / 8) as u64);
-    write_bits(body, at, m, out, place + 2);
-    place + 2 + m / 8
+    put(out, from.place, 2, (m / 8) as u64);
+    write_bits(from.body, from.at, m, out, from.place + 2);
+    from.place + 2 + m / 8
 }
 
-// Raw bytes, behind their count.
-fn write_raw(
-    body: &[u8],
-    at: u16,
-    stop: u16,
-    out: &mut [u8],
-    place: usize,
-) -> Result<Step<u16>, Refusal>
-    requires placed { Placed body.now at place }
-    requires at_value { (at % 8 ≡ 0) × (stop % 8 ≡ 0) }
-    ensures { (ed : Edition) (nm : Name) → Ragged body.now (inside ed stop) (raw nm) at place out.old out.new result }
+// Raw bytes, behind their count, which takes no bits of the body: so its two bytes are asked for (`spare`).
+fn write_raw<'a>(from: Step<'a>, stop: u16, out: &mut [u8]) -> Result<Step<'a>, Refusal>
+    requires at_value { (from.at % 8 ≡ 0) × (stop % 8 ≡ 0) }
+    requires spare { from.place ≤ from.at + 6 }
+    ensures { (ed : Edition) (nm : Name)
+        → Ragged from.entry.body.now (inside ed stop) (raw nm) from.entry.at from.entry.place out.old out.new result }
 {
-    let m = raw_bits(at, stop, 8 * body.len());
-    let p = write_bytes(body, at, m, out, place);
+    let m = raw_bits(from.at, stop, 8 * from.body.len());
+    let place = write_bytes(from, m, out);
     Ok(Step {
-        at: (at as usize + m) as u16,
-        place: p,
+        body: from.body,
+        place,
+        at: (from.at as usize + m) as u16,
         last: 0,
     })
 }
 
 // Mode 1: a map of slots.
-fn write_bitmap(body: &[u8], at: u16, out: &mut [u8], place: usize) -> Result<Step<u16>, Refusal>
-    requires placed { Placed body.now at place }
-    requires at_value { at % 8 ≡ 0 }
-    ensures { (e : Around) → Ran body.now e bitmap at place out.old (λ _. end) out.new result }
+fn write_bitmap<'a>(from: Step<'a>, out: &mut [u8]) -> Result<Step<'a>, Refusal>
+    requires at_value { from.at % 8 ≡ 0 }
+    ensures { (e : Around) → RanFrom from.entry e bitmap out.old (λ _. end) out.new result }
 {
-    let size = write_needed(
-        body,
-        at,
-        Fault::BitmapHeaderCut,
-        32,
-        &marks::SLOT,
-        out,
-        place,
-    )?;
-    let current = write_run(body, size.at, &marks::SLOT, out, size.place)?;
-    write_slots(body, current.at, size.last as usize, out, current.place)
+    let size = write_needed(from, Fault::BitmapHeaderCut, 32, &marks::SLOT, out)?;
+    let current = write_run(size, &marks::SLOT, out)?;
+    write_slots(current, size.last as usize, out)
 }
 
-// The fields of a plan's mode, by its number.
-fn write_mode(
-    body: &[u8],
-    at: u16,
-    stop: u16,
-    kind: u64,
-    out: &mut [u8],
-    place: usize,
-) -> Result<Step<u16>, Refusal>
-    requires placed { Placed body.now at place }
-    requires at_value { (at % 8 ≡ 0) × (stop % 8 ≡ 0) }
-    ensures { (ed : Edition) → Ragged body.now (inside ed stop) (mode kind) at place out.old out.new result }
+// The fields of a plan's mode.
+fn write_mode<'a>(from: Step<'a>, stop: u16, kind: u64, out: &mut [u8]) -> Result<Step<'a>, Refusal>
+    requires at_value { (from.at % 8 ≡ 0) × (stop % 8 ≡ 0) }
+    requires spare { from.place ≤ from.at + 6 }
+    ensures { (ed : Edition)
+        → Ragged from.entry.body.now (inside ed stop) (mode kind) from.entry.at from.entry.place
+        out.old out.new result }
 {
+    // The mode's number, as its field has it: of 0 to 3 each has its arm.
     match kind {
-        0 => write_needed(body, at, Fault::DwellCut, 96, &marks::CLOCKS, out, place),
-        1 => write_bitmap(body, at, out, place),
-        2 => write_needed(body, at, Fault::GridCut, 192, &marks::GRID, out, place),
-        _ => write_raw(body, at, stop, out, place),
+        0 => write_needed(from, Fault::DwellCut, 96, &marks::CLOCKS, out),
+        1 => write_bitmap(from, out),
+        2 => write_needed(from, Fault::GridCut, 192, &marks::GRID, out),
+        _ => write_raw(from, stop, out),
     }
 }
 
 // What stands within a plan that ends at a place.
-fn write_hopping(
-    body: &[u8],
-    at: u16,
-    stop: u16,
-    out: &mut [u8],
-    place: usize,
-) -> Result<Step<u16>, Refusal>
-    requires placed { Placed body.now at place }
-    requires at_value { (at % 8 ≡ 0) × (stop % 8 ≡ 0) }
-    ensures { (ed : Edition) → Ran body.now (inside ed stop) hopping at place out.old (λ _. end) out.new result }
+fn write_hopping<'a>(from: Step<'a>, stop: u16, out: &mut [u8]) -> Result<Step<'a>, Refusal>
+    requires at_value { (from.at % 8 ≡ 0) × (stop % 8 ≡ 0) }
+    ensures { (ed : Edition) → RanFrom from.entry (inside ed stop) hopping out.old (λ _. end) out.new result }
 {
-    let head = write_run(body, at, &marks::MODE, out, place)?;
-    let clocks = write_run(body, head.at, &marks::CLOCKS, out, head.place)?;
-    write_mode(body, clocks.at, stop, head.last, out, clocks.place)
+    let head = write_run(from, &marks::MODE, out)?;
+    let clocks = write_run(head, &marks::CLOCKS, out)?;
+    write_mode(clocks, stop, head.last, out)
 }
 
 // A plan's length, which the second edition has; the place behind it.
@@ -183,42 +147,38 @@ fn write_length(edition: Edition, length: u64, out: &mut [u8], place: usize) -> 
 }
 
 // A plan's filler, from the fields' end up to the next place, which the second edition has; the place behind it.
-fn write_filler(
-    body: &[u8],
-    at: u16,
-    next: u16,
-    edition: Edition,
-    out: &mut [u8],
-    place: usize,
-) -> usize
-    requires { (length body.now ≤ 4096) × (at ≤ next) × (next ≤ 8 * length body.now)
-        × (at % 8 ≡ 0) × (next % 8 ≡ 0) × (place ≤ 39000) }
-    ensures { Appended out.old place
-        (added edition (counted_bytes (take (next - at) (drop at (bits_of body.now))))) out.new result }
+fn write_filler(from: Step, next: u16, edition: Edition, out: &mut [u8]) -> usize
+    requires { (from.at ≤ next) × (next ≤ 8 * length from.body.now) × (from.at % 8 ≡ 0) × (next % 8 ≡ 0) }
+    ensures { Appended out.old from.entry.place
+        (added edition (counted_bytes (take (next - from.entry.at) (drop from.entry.at (bits_of from.entry.body.now)))))
+        out.new result }
 {
     match edition {
-        Edition::First => place,
-        Edition::Second => write_bytes(body, at, (next - at) as usize, out, place),
+        Edition::First => from.place,
+        Edition::Second => write_bytes(from, (next - from.at) as usize, out),
     }
 }
 
 // A plan's length, what it is the length of, and the filler. The next place is the plan's end, or the data's if that
 // comes first.
-fn write_ended(
-    body: &[u8],
-    at: u16,
-    edition: Edition,
-    out: &mut [u8],
-    place: usize,
-) -> Result<Step<u16>, Refusal>
-    requires placed { Placed body.now at place }
-    requires at_value { (at + 12) % 8 ≡ 0 }
-    ensures { Ran body.now (outside edition) (plan "plan_length" hopping) at place out.old (λ _. end) out.new result }
+fn write_ended<'a>(from: Step<'a>, edition: Edition, out: &mut [u8]) -> Result<Step<'a>, Refusal>
+    requires at_value { (from.at + 12) % 8 ≡ 0 }
+    ensures { RanFrom from.entry (outside edition) (plan "plan_length" hopping) out.old (λ _. end) out.new result }
 {
-    let bytes = read_u(body, at, 12)?;
+    let cursor = Cursor {
+        body: from.body,
+        at: from.at,
+    };
+    let bytes = read_u(cursor, 12)?;
     let stop = (bytes.next as usize + 8 * (bytes.value as usize)) as u16;
-    let from = write_length(edition, bytes.value, out, place);
-    let hopping = write_hopping(body, bytes.next, stop, out, from)?;
+    let place = write_length(edition, bytes.value, out, from.place);
+    let start = Step {
+        body: from.body,
+        place,
+        at: bytes.next,
+        last: 0,
+    };
+    let hopping = write_hopping(start, stop, out)?;
     let passed = stop < hopping.at;
     if passed {
         return Err(Refusal {
@@ -227,27 +187,21 @@ fn write_ended(
             have: 0,
         });
     }
-    let next = (stop as usize).min(8 * body.len()) as u16;
-    let behind = write_filler(body, hopping.at, next, edition, out, hopping.place);
+    let next = (stop as usize).min(8 * from.body.len()) as u16;
+    let behind = write_filler(hopping, next, edition, out);
     Ok(Step {
-        at: next,
+        body: from.body,
         place: behind,
+        at: next,
         last: hopping.last,
     })
 }
 
 // A plan, in an edition.
-pub fn write_plan(
-    body: &[u8],
-    at: u16,
-    edition: Edition,
-    out: &mut [u8],
-    place: usize,
-) -> Result<Step<u16>, Refusal>
-    requires placed { Placed body.now at place }
-    requires at_value { at % 8 ≡ 0 }
-    ensures { Ran body.now (outside edition) beamhopping at place out.old (λ _. end) out.new result }
+pub fn write_plan<'a>(from: Step<'a>, edition: Edition, out: &mut [u8]) -> Result<Step<'a>, Refusal>
+    requires at_value { from.at % 8 ≡ 0 }
+    ensures { RanFrom from.entry (outside edition) beamhopping out.old (λ _. end) out.new result }
 {
-    let head = write_run(body, at, &marks::PLAN, out, place)?;
-    write_ended(body, head.at, edition, out, head.place)
+    let head = write_run(from, &marks::PLAN, out)?;
+    write_ended(head, edition, out)
 }

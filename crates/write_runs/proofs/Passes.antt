@@ -14,14 +14,16 @@ use Rattle.format.specs.Syntax.{Name, Syntax}
 use Rattle.format.specs.declared.Fault.TheVariants.{FieldCut, ExtensionTooLarge}
 use Rattle.bits.proofs.Values.{value_at_none, value_at_lt}
 use Rattle.runs.specs.Lines.{line, run, width_of, size_of, ext_of, mark_ok, marks_ok, head_name}
-use Rattle.runs.specs.declared.Step.{Step}
-use Rattle.runs.specs.Steps.{stepped}
+use Rattle.runs.specs.declared.RunEnd.{RunEnd}
+use Rattle.runs.specs.Ends.{ended_at}
 use Rattle.format.specs.declared.Refusal.{Refusal}
 use Rattle.runs.proofs.MarkLaws.{mark_facts, marks_at}
 use Rattle.runs.proofs.Stores.{digits_short}
-use Rattle.write_runs.specs.Went.{Around, Ran, Placed, Moved}
+use Rattle.write_runs.specs.Placed.{Placed}
+use Rattle.write_runs.specs.Went.{Around}
+use Rattle.write_runs.specs.Ended.{Ended, Over}
 use Rattle.write_runs.proofs.WentLaws.{line_done, line_no, line_damaged}
-use Rattle.write_runs.proofs.Runs.{Next, Along, lines, lines_next, lines_end, Balance, balance_next, balance_end, begin, turn, stop, ended}
+use Rattle.write_runs.proofs.Runs.{Next, Along, lines, lines_next, lines_end, Balance, balance_next, balance_end, begin, next, stop, ended}
 
 -- i fields are passed, of which the last has so many bits
 pub record Passed (body : List ℕ) (at : ℕ) (marks : List ℕ) (place here there width i : ℕ) : Type 0 where
@@ -71,43 +73,42 @@ module _ {body marks : List ℕ} {at place : ℕ} where
         let back : here + w - w ≡ here = omega arith in
         let same : value_at body (here + w - w) w ≡ v = ap (λ (p : ℕ). value_at body p w) back in
         let one : i + 1 - 1 ≡ i = omega arith in
-        let y : (nm : Name) (e : Around) (k : Next) → Ran body e (line nm c k) here there [] k [] (stepped (here + w) (there + z) v) =
-        λ nm e k. record { to = line_done nm c k m ew ez fits refl fine (sym (digits_short [] there z _ (omega (arith, f.one)))) } in
         record {
           along = λ nms. subst (λ (x : ℕ). Along (run nms 0 marks) (lines nms marks) body at place [] (here + w) (there + z) x (i + 1) []) (sym same)
-              (turn (line (head_name (drop i nms)) c) (st.along nms) (λ k. lines_next nms marks _ i k more) (y (head_name (drop i nms))));
+              (next (line (head_name (drop i nms)) c) (st.along nms) (λ k. lines_next nms marks _ i k more)
+              (λ e k. line_done (head_name (drop i nms)) c k m ew ez fits refl fine (sym (digits_short [] there z _ (omega (arith, f.one))))));
           most = omega arith;
           few = omega (arith, f.most);
           inside = omega arith;
           last = rw (same, one, ← ew) (value_at_lt body here w);
-          balance = balance_next {x = record { at = here + w; place = there + z; last = v }} marks at place here there i more (record { to = (omega (arith, ew), omega (arith, ez)) }) st.balance;
+          balance = balance_next marks at place here there i more (omega (arith, ew), omega (arith, ez)) st.balance;
         }
 
-    pub pass_stops : 8 * length body < here + w → (e : Around) (nms : List Name) (k : Next) → Ran body e (run nms 0 marks k) at place [] k [] (Err (refuse FieldCut (here + w) (8 * length body)))
+    pub pass_stops : 8 * length body < here + w → (e : Around) (nms : List Name) (k : Next) → Ended body e (run nms 0 marks k) at place [] k [] (Err (refuse FieldCut (here + w) (8 * length body)))
     pass_stops h e nms k =
         let c = get_or marks i 0 in
         let nm = head_name (drop i nms) in
         let within = (st.along nms).placed.within in
-        stop (line nm c) (st.along nms) (λ k. lines_next nms marks _ i k more) (λ e k. record { to = line_no body e here nm c k ew within h }) e k k
+        record { to = stop (line nm c) (st.along nms) (λ k. lines_next nms marks _ i k more) (λ e k. line_no body e here nm c k ew within h) e k }
 
     pub pass_damaged : {x : ℕ} → here + w ≤ 8 * length body → x ≡ ext_of (get_or marks i 0) (value_at body here w) → 299 < x
-        → (e : Around) (nms : List Name) (k : Next) → Ran body e (run nms 0 marks k) at place [] k [] (Err (refuse ExtensionTooLarge x 299))
+        → (e : Around) (nms : List Name) (k : Next) → Ended body e (run nms 0 marks k) at place [] k [] (Err (refuse ExtensionTooLarge x 299))
     pass_damaged fits q h e nms k =
         let c = get_or marks i 0 in
         let nm = head_name (drop i nms) in
-        rw q (stop (line nm c) (st.along nms) (λ k. lines_next nms marks _ i k more) (λ e k. record { to = line_damaged body e here nm c k ew fits refl (omega (arith, q)) }) e k k)
+        rw q (record { to = stop (line nm c) (st.along nms) (λ k. lines_next nms marks _ i k more) (λ e k. line_damaged body e here nm c k ew fits refl (omega (arith, q))) e k })
 
   -- all are passed
   pub pass_ends : {here there width i v : ℕ} → Passed body at marks place here there width i → i ≡ length marks → v ≡ value_at body (here - width) width
-      → (e : Around) (nms : List Name) (k : Next) → Ran body e (run nms 0 marks k) at place [] k [] (stepped here there v)
+      → (e : Around) (nms : List Name) (k : Next) → Ended body e (run nms 0 marks k) at place [] k [] (ended_at here there v)
   pass_ends {here} {there} {width} {i} {v} st z q e nms k =
-      subst (λ (x : ℕ). Ran body e (run nms 0 marks k) at place [] k [] (stepped here there x)) (sym q)
+      subst (λ (x : ℕ). Ended body e (run nms 0 marks k) at place [] k [] (ended_at here there x)) (sym q)
       (record { to = ended (st.along nms) e k _ (lines_end nms marks _ i k z) })
 
-  pub pass_moved : {here there width i v : ℕ} → Passed body at marks place here there width i → i ≡ length marks → Moved at place marks (stepped here there v)
+  pub pass_moved : {here there width i v : ℕ} → Passed body at marks place here there width i → i ≡ length marks → Over at place marks (ended_at here there v)
   pass_moved {here} {there} {width} {i} st z = record { to = balance_end marks at place here there i z st.balance }
 
 -- with a buffer that is empty, nothing is stored
-pub none_stored : {body out : List ℕ} {e : Around} {at place : ℕ} {s : Syntax} {k : Next} {r : Result (Step ℕ) Refusal} → length out ≡ 0 → Ran body e s at place [] k [] r → Ran body e s at place out k out r
+pub none_stored : {body out : List ℕ} {e : Around} {at place : ℕ} {s : Syntax} {k : Next} {r : Result (RunEnd ℕ) Refusal} → length out ≡ 0 → Ended body e s at place [] k [] r → Ended body e s at place out k out r
 none_stored {out = []} z x = x
 none_stored {out = y ∷ ys} z x = absurd (omega arith)

@@ -1,6 +1,5 @@
-// Fields of a body, gone through by their marks and written as a ledger on the way.
-// Where the buffer is too short it may keep anything, and the answer is the same: so the size is asked for with an empty
-// one.
+// Fields of a body, gone through by their marks and written as a ledger on the way. Where the buffer is too short it
+// may keep anything, and the answer is the same: so the size is asked for with an empty one.
 #![tactic(auto)]
 
 ghost use Rattle.std.specs.Prelude.{◌≡◌, List, [], ◌∷◌, ℕ, ◌-◌, ◌*◌, ◌^◌, ◌≤◌, ◌<◌, T};
@@ -10,14 +9,21 @@ ghost use Rattle.format.specs.Syntax.{Name, Syntax, need};
 ghost use Rattle.format.specs.Tables.{times};
 ghost use Rattle.format.specs.declared.Fault.TheVariants.{ExtensionTooLarge};
 ghost use Rattle.bits.specs.Read.{Room};
+ghost use Rattle.bit_reader.specs.Readers.{enough_at};
 ghost use Rattle.runs.specs.Lines.{width_of, last_width, size_for, mark_ok, marks_ok, line, run, run_of};
-ghost use Rattle.runs.specs.Steps.{last_of};
 ghost use Rattle.runs.specs.Stored.{stored};
-ghost use Rattle.write_runs.specs.Went.{Around, Placed, Ran, Reached, Moved};
+ghost use Rattle.runs.specs.Ends.{end_last};
+ghost use Rattle.write_runs.specs.Placed.{Placed};
+ghost use Rattle.write_runs.specs.Steps.{last_of};
+ghost use Rattle.write_runs.specs.Ended.{Ended, Over};
+ghost use Rattle.write_runs.specs.Went.{Around, RanFrom, Moved};
 
-use bits::{put_be, value_at};
+use bits::{Cursor, put_be, value_at};
 use format::{Fault, Refusal};
-use runs::{Step, shown_of, size_for, size_of, width_of};
+use runs::{RunEnd, shown_of, size_for, size_of, width_of};
+pub use step::Step;
+
+mod step;
 
 // Stores the k low bytes of v at a place, where there is room for all of them; a ledger's fields have 1, 2, 4 or 8.
 // Inlined for speed, so that only these sizes are tested.
@@ -44,6 +50,7 @@ fn damaged(ext: u64) -> Refusal
 }
 
 // The bytes in a ledger of a field that is there, as `size_for` has them; its number is read only where it may matter.
+// By plain places, as `pass_run`, which calls it.
 fn size_at(body: &[u8], at: u16, mark: u8) -> Option<usize>
     requires room { Room body.now at (width_of mark) }
     requires valid { T (mark_ok mark) }
@@ -56,21 +63,21 @@ fn size_at(body: &[u8], at: u16, mark: u8) -> Option<usize>
     size_for(mark, value_at(body, at, width_of(mark)))
 }
 
-// One field.
+// One field. This and the three below go by plain places, and answer a run's end: where they took a step and handed it
+// back, writing took up to 7 % more instructions, and up to 17 % more time.
 fn write_line(
     body: &[u8],
     at: u16,
     mark: u8,
     out: &mut [u8],
     place: usize,
-) -> Result<Step<u16>, Refusal>
+) -> Result<RunEnd<u16>, Refusal>
     requires placed { Placed body.now at place }
     requires valid { T (mark_ok mark) }
     ensures ran { (e : Around) (nm : Name) (k : ℕ → Syntax)
-        → Ran body.now e (line nm mark k) at place out.old k out.new result }
-    ensures result_bound { last_of result < 2 ^ width_of mark }
-    ensures came { Reached body.now result }
-    ensures moved { Moved at place (mark ∷ []) result }
+        → Ended body.now e (line nm mark k) at place out.old k out.new result }
+    ensures result_bound { end_last result < 2 ^ width_of mark }
+    ensures moved { Over at place (mark ∷ []) result }
 {
     let have = 8 * body.len();
     let width = width_of(mark);
@@ -87,7 +94,7 @@ fn write_line(
         return Err(damaged(v));
     };
     put(out, place, size, shown_of(mark, v));
-    Ok(Step {
+    Ok(RunEnd {
         at: need as u16,
         place: place + size,
         last: v,
@@ -95,14 +102,13 @@ fn write_line(
 }
 
 // A run of fields that are not stored: only the last one's number is taken, and those that are tested.
-fn pass_run(body: &[u8], at: u16, marks: &[u8], place: usize) -> Result<Step<u16>, Refusal>
+fn pass_run(body: &[u8], at: u16, marks: &[u8], place: usize) -> Result<RunEnd<u16>, Refusal>
     requires placed { Placed body.now at place }
     requires valid { T (marks_ok marks.now) }
     ensures ran { (e : Around) (nms : List Name) (k : ℕ → Syntax)
-        → Ran body.now e (run nms 0 marks.now k) at place [] k [] result }
-    ensures result_bound { last_of result < 2 ^ last_width marks.now }
-    ensures came { Reached body.now result }
-    ensures moved { Moved at place marks.now result }
+        → Ended body.now e (run nms 0 marks.now k) at place [] k [] result }
+    ensures result_bound { end_last result < 2 ^ last_width marks.now }
+    ensures moved { Over at place marks.now result }
 {
     let have = 8 * body.len();
     let mut here = at;
@@ -124,7 +130,7 @@ fn pass_run(body: &[u8], at: u16, marks: &[u8], place: usize) -> Result<Step<u16
         here = need as u16;
         there += size;
     }
-    Ok(Step {
+    Ok(RunEnd {
         at: here,
         place: there,
         last: value_at(body, (here as usize - width) as u16, width),
@@ -138,37 +144,35 @@ fn store_run(
     marks: &[u8],
     out: &mut [u8],
     place: usize,
-) -> Result<Step<u16>, Refusal>
+) -> Result<RunEnd<u16>, Refusal>
     requires placed { Placed body.now at place }
     requires valid { T (marks_ok marks.now) }
     ensures ran { (e : Around) (nms : List Name) (k : ℕ → Syntax)
-        → Ran body.now e (run nms 0 marks.now k) at place out.old k out.new result }
-    ensures result_bound { last_of result < 2 ^ last_width marks.now }
-    ensures came { Reached body.now result }
-    ensures moved { Moved at place marks.now result }
+        → Ended body.now e (run nms 0 marks.now k) at place out.old k out.new result }
+    ensures result_bound { end_last result < 2 ^ last_width marks.now }
+    ensures moved { Over at place marks.now result }
 {
-    let mut step = Step { at, place, last: 0 };
+    let mut end = RunEnd { at, place, last: 0 };
     for &mark in marks {
-        step = write_line(body, step.at, mark, out, step.place)?;
+        end = write_line(body, end.at, mark, out, end.place)?;
     }
-    Ok(step)
+    Ok(end)
 }
 
-// A run of fields.
-pub fn write_run(
+// A run of fields, stored where there is a buffer.
+fn go_over(
     body: &[u8],
     at: u16,
     marks: &[u8],
     out: &mut [u8],
     place: usize,
-) -> Result<Step<u16>, Refusal>
+) -> Result<RunEnd<u16>, Refusal>
     requires placed { Placed body.now at place }
     requires valid { T (marks_ok marks.now) }
     ensures ran { (e : Around) (nms : List Name) (k : ℕ → Syntax)
-        → Ran body.now e (run nms 0 marks.now k) at place out.old k out.new result }
-    ensures result_bound { last_of result < 2 ^ last_width marks.now }
-    ensures came { Reached body.now result }
-    ensures moved { Moved at place marks.now result }
+        → Ended body.now e (run nms 0 marks.now k) at place out.old k out.new result }
+    ensures result_bound { end_last result < 2 ^ last_width marks.now }
+    ensures moved { Over at place marks.now result }
 {
     if out.len() == 0 {
         return pass_run(body, at, marks, place);
@@ -176,80 +180,90 @@ pub fn write_run(
     store_run(body, at, marks, out, place)
 }
 
+// A run of fields. Inlined for speed, so that what goes along stays in registers.
+#[inline(always)]
+pub fn write_run<'a>(from: Step<'a>, marks: &[u8], out: &mut [u8]) -> Result<Step<'a>, Refusal>
+    requires valid { T (marks_ok marks.now) }
+    ensures ran { (e : Around) (nms : List Name) (k : ℕ → Syntax)
+        → RanFrom from.entry e (run nms 0 marks.now k) out.old k out.new result }
+    ensures result_bound { last_of result < 2 ^ last_width marks.now }
+    ensures moved { Moved from.entry.at from.entry.place marks.now result }
+{
+    let run = go_over(from.body, from.at, marks, out, from.place)?;
+    Ok(Step {
+        body: from.body,
+        place: run.place,
+        at: run.at,
+        last: run.last,
+    })
+}
+
+// Tests that so many bits are there from a step's place on: refused with a fault of the caller's where they pass the
+// end. Inlined for speed.
+#[inline(always)]
+pub fn enough(from: Step<'_>, fault: Fault, bits: usize) -> Result<(), Refusal>
+    ensures { result ≡ enough_at from.entry.body.now from.entry.at fault bits }
+{
+    let cursor = Cursor {
+        body: from.body,
+        at: from.at,
+    };
+    bit_reader::enough(cursor, fault, bits)
+}
+
 // A run of fields, for which so many bits must remain.
-pub fn write_needed(
-    body: &[u8],
-    at: u16,
+pub fn write_needed<'a>(
+    from: Step<'a>,
     fault: Fault,
     bits: usize,
     marks: &[u8],
     out: &mut [u8],
-    place: usize,
-) -> Result<Step<u16>, Refusal>
-    requires placed { Placed body.now at place }
+) -> Result<Step<'a>, Refusal>
     requires valid { T (marks_ok marks.now) }
     ensures ran { (e : Around) (nms : List Name) (k : ℕ → Syntax)
-        → Ran body.now e (need fault bits (run nms 0 marks.now k)) at place out.old k out.new result }
+        → RanFrom from.entry e (need fault bits (run nms 0 marks.now k)) out.old k out.new result }
     ensures result_bound { last_of result < 2 ^ last_width marks.now }
-    ensures came { Reached body.now result }
-    ensures moved { Moved at place marks.now result }
+    ensures moved { Moved from.entry.at from.entry.place marks.now result }
 {
-    let have = 8 * body.len() - at as usize;
-    if have < bits {
-        return Err(Refusal {
-            fault,
-            need: bits,
-            have,
-        });
-    }
-    write_run(body, at, marks, out, place)
+    enough(from, fault, bits)?;
+    write_run(from, marks, out)
 }
 
 // The same run so many times.
-fn write_rounds(
-    body: &[u8],
-    at: u16,
+fn write_rounds<'a>(
+    from: Step<'a>,
     marks: &[u8],
     count: usize,
     out: &mut [u8],
-    place: usize,
-) -> Result<Step<u16>, Refusal>
-    requires placed { Placed body.now at place }
+) -> Result<Step<'a>, Refusal>
     requires valid { T (marks_ok marks.now) }
-    ensures came { Reached body.now result }
     ensures ran { (e : Around) (nms : List Name) (s : Syntax)
-        → Ran body.now e (times count (run_of nms marks.now) s) at place out.old (λ _. s) out.new result }
+        → RanFrom from.entry e (times count (run_of nms marks.now) s) out.old (λ _. s) out.new result }
 {
-    let mut step = Step { at, place, last: 0 };
+    let mut step = from;
     for _ in 0..count {
-        step = write_run(body, step.at, marks, out, step.place)?;
+        step = write_run(step, marks, out)?;
     }
     Ok(step)
 }
 
 // The same run count times, for which so many bits each must remain.
-pub fn write_counted(
-    body: &[u8],
-    at: u16,
+pub fn write_counted<'a>(
+    from: Step<'a>,
     fault: Fault,
     bits: usize,
     marks: &[u8],
     count: u64,
     out: &mut [u8],
-    place: usize,
-) -> Result<Step<u16>, Refusal>
-    requires placed { Placed body.now at place }
+) -> Result<Step<'a>, Refusal>
     requires valid { T (marks_ok marks.now) }
     requires count_bound { (count < 65536) × (bits < 65536) }
-    ensures came { Reached body.now result }
     ensures ran { (e : Around) (nms : List Name) (s : Syntax)
-        → Ran body.now e (need fault (count * bits) (times count (run_of nms marks.now) s)) at place out.old (λ _. s) out.new result }
+        → RanFrom from.entry e (need fault (count * bits) (times count (run_of nms marks.now) s))
+        out.old (λ _. s) out.new result }
 {
-    let have = 8 * body.len() - at as usize;
     let n = count as usize;
     let need = n * bits;
-    if have < need {
-        return Err(Refusal { fault, need, have });
-    }
-    write_rounds(body, at, marks, n, out, place)
+    enough(from, fault, need)?;
+    write_rounds(from, marks, n, out)
 }

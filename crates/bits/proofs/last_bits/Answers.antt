@@ -2,9 +2,9 @@
 -- Assumes nothing.
 use mathlib.Core.Path.{refl}
 use native.Mathlib.Omega.{arith}
-use Rattle.bits.proofs.Values.{one_shl}
+use Rattle.std.proofs.lemmas.Nat.{one_shl}
 use Rattle.bits.proofs.Spans.{at_back}
 use Rattle.bits.proofs.last_bits.Goals as goal
 
 pub returns : goal.returns
-returns c = rw (one_shl c.args.n (omega arith)) (at_back _ _ c.args.n _ (omega arith) (omega arith) refl)
+returns c = rw (one_shl c.args.n 64 (omega arith)) (at_back _ _ c.args.n _ (omega arith) (omega arith) refl)

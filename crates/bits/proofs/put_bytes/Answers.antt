@@ -1,7 +1,7 @@
 -- `put_bytes` meets its contract. The loop's invariant: the first i of the K bytes are stored.
 -- Assumes nothing.
 use Rattle.std.proofs.Common.{◌≡◌, ◌+◌, ◌-◌, arith}
-use Rattle.bits.proofs.Words.{put_none, put_more, put_all}
+use Rattle.bits.proofs.Words.{put_none, put_more}
 use Rattle.bits.proofs.put_bytes.Goals as goal
 
 pub loop-i-init : goal.loop-i-init
@@ -15,9 +15,3 @@ loop-i-preserved g c =
     let e : g.row.K - l.i ≡ k + 1 = omega arith in
     let f : g.row.K - (l.i + 1) ≡ k = omega arith in
     (omega arith, rw (l.invariant.1, e, f) (put_more a.out.now a.at l.i k a.v (omega arith)))
-
-pub returns : goal.returns
-returns g c =
-    let l = c.loop-i in
-    let e : l.i ≡ g.row.K = omega arith in
-    rw (l.invariant.1, e) (put_all _ _ g.row.K c.args.v)

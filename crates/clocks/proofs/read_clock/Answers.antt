@@ -8,4 +8,4 @@ pub returns-in_err-found : goal.returns-in_err-found
 returns-in_err-found c = search (fields_refused, rules)
 
 pub returns : goal.returns
-returns c = read_tested _ _ c.requires c.checked.ensures c.take_clock.ensures c.in_ok-found.was
+returns c = read_tested _ _ c.args.from.place c.checked.ensures c.take_clock.ensures c.in_ok-found.was

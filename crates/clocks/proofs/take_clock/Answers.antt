@@ -11,7 +11,7 @@ pub returns-in_err-base : goal.returns-in_err-base
 unfolding fields_at
 returns-in_err-base c =
     from_place _ _ _ _ _ c.new-reader.ensures c.skip.ensures
-    (cut_field _ _ _ _ _ _ _ _ _ c.in_err-base.was c.read_u.ensures.answer (at_place c.new-reader.ensures c.skip.ensures c.requires) (search rules))
+    (cut_field _ _ _ _ _ _ _ _ _ c.in_err-base.was c.read_u.ensures.answer (at_place c.new-reader.ensures c.skip.ensures c.args.from.place) (search rules))
 
 pub read_u-requires-2 : goal.read_u-requires-2
 read_u-requires-2 c = search (at_place, next_reader, rules)

@@ -4,7 +4,7 @@ use Rattle.bits.proofs.Answers.{value_fits}
 use Rattle.entry_ids.proofs.entry_id.Goals as goal
 
 pub overflow_cast-result : goal.overflow_cast-result
-overflow_cast-result c = value_fits _ _ 32 c.value_at.ensures tt
+overflow_cast-result c = value_fits _ _ 24 c.value.ensures tt
 
-pub overflow_cast-result-in_default : goal.overflow_cast-result-in_default
-overflow_cast-result-in_default c = value_fits _ _ 24 c.value_at-in_default.ensures tt
+pub overflow_cast-result-in-CellFragment : goal.overflow_cast-result-in-CellFragment
+overflow_cast-result-in-CellFragment c = value_fits _ _ 32 c.value-in-CellFragment.ensures tt

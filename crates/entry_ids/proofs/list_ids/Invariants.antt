@@ -6,7 +6,7 @@ use Rattle.entry_ids.proofs.Walks.{Kept}
 use Rattle.entry_ids.proofs.list_ids.Given as goal
 
 abbrev pub invariant-loop-at : goal.invariant-loop-at
-invariant-loop-at l = Kept l.table_id l.s l.start l.at l.ids.items
+invariant-loop-at l = Kept l.table l.from.body.now l.from.at l.at l.ids.items
 
 abbrev pub decreases-loop-at : goal.decreases-loop-at
-decreases-loop-at l = 8 * length l.s - l.at
+decreases-loop-at l = 8 * length l.from.body.now - l.at

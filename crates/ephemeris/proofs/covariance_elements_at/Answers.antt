@@ -17,5 +17,5 @@ overflow_cast-elements c = search value_fits
 pub loop-i-preserved : goal.loop-i-preserved
 loop-i-preserved c =
     let l = c.loop-i in
-    put_word c.args.s.now l.elements c.args.at l.i 21 c.value_at-word.result (omega arith)
-    l.invariant c.value_at-word.ensures
+    put_word c.args.from.body.now l.elements c.args.from.at l.i 21 c.value-word.result (omega arith)
+    l.invariant c.value-word.ensures

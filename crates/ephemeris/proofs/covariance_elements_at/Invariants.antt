@@ -8,4 +8,4 @@ use Rattle.ephemeris.specs.Ephemeris.{words_at}
 use Rattle.ephemeris.proofs.covariance_elements_at.Given as goal
 
 abbrev pub invariant-loop-i : goal.invariant-loop-i
-invariant-loop-i l = l.elements ≡ words_at l.s l.at l.i ++ replicate (21 - l.i) 0
+invariant-loop-i l = l.elements ≡ words_at l.from.body.now l.from.at l.i ++ replicate (21 - l.i) 0

@@ -11,15 +11,15 @@ returns-then-length-start c =
     let a = c.args in
     afar a.body.now a.part a.accel a.index c.if-part-index.false c.if-length-gt4096.false c.then-length-start.either
 
-pub returns-then-length-from : goal.returns-then-length-from
-returns-then-length-from c =
+pub returns-then-length-first : goal.returns-then-length-first
+returns-then-length-first c =
     let a = c.args in
     let e = bytes_of a.accel c.entry_bits-size.ensures in
     outside a.body.now a.part a.accel a.index c.if-part-index.false c.if-length-gt4096.false
-    (rw e at c.if-length-from.true)
+    (rw e at c.if-length-first.true)
 
 pub returns : goal.returns
 returns c =
     let a = c.args in
     inside a.body.now a.part a.accel a.index c.if-part-index.false c.if-length-gt4096.false
-    (bytes_of a.accel c.entry_bits-size.ensures) c.if-length-from.false c.entry_at.ensures
+    (bytes_of a.accel c.entry_bits-size.ensures) c.if-length-first.false c.entry_at.ensures

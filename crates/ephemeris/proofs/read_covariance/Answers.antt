@@ -15,7 +15,8 @@ use Rattle.ephemeris.proofs.read_covariance.Goals as goal
 pub returns-then-not-flag : goal.returns-then-not-flag
 returns-then-not-flag c =
     let a = c.args in
-    sym (closed_answer _ _ _ _ _ (unclosed a.s.now _ a.at (flag_tested a.flag c.if-not-flag.true) c.requires.within))
+    sym (closed_answer _ _ _ _ _ (unclosed a.from.body.now _ a.from.at (flag_tested a.flag c.if-not-flag.true)
+    a.from.place.within))
 
 pub returns-in_err-enough : goal.returns-in_err-enough
 unfolding covariance_at
@@ -23,14 +24,15 @@ returns-in_err-enough c =
     let a = c.args in
     let h = flag_tested a.flag c.if-not-flag.false in
     carried c.from_residual.ensures
-    ∙ sym (stopped_answer _ (closed_short a.s.now _ a.at h c.enough.ensures c.in_err-enough.was))
+    ∙ sym (stopped_answer _ (closed_short a.from.body.now _ a.from.at h c.enough.ensures c.in_err-enough.was))
 
 pub covariance_at-requires : goal.covariance_at-requires
-covariance_at-requires c = enough_room _ _ _ _ c.enough.ensures c.in_ok-enough.was c.requires
+covariance_at-requires c = enough_room _ _ _ _ c.enough.ensures c.in_ok-enough.was c.args.from.place
 
 pub returns : goal.returns
 returns c =
     let a = c.args in
     let h = flag_tested a.flag c.if-not-flag.false in
-    ap (λ (t : CovarianceData). found_at (Some t) (a.at + 728)) c.covariance_at.ensures
-    ∙ sym (closed_answer _ _ _ _ _ (closed_there a.s.now _ a.at h c.enough.ensures c.requires c.in_ok-enough.was))
+    ap (λ (t : CovarianceData). found_at (Some t) (a.from.at + 728)) c.covariance_at.ensures
+    ∙ sym (closed_answer _ _ _ _ _ (closed_there a.from.body.now _ a.from.at h c.enough.ensures a.from.place
+    c.in_ok-enough.was))

@@ -10,14 +10,14 @@ use Rattle.ephemeris.proofs.read_ephemerides.Goals.{In_ok-counted}
 
 -- the count that was read
 counted : (c : In_ok-counted) → let a = c.args in
-    Got a.s.now a.at 16 c.in_ok-counted.counted
+    Got a.from.body.now a.from.at 16 c.in_ok-counted.counted
 counted c = got_all _ _ 16 c.read_u.ensures c.in_ok-counted.was
 
 pub returns-in_err-counted : goal.returns-in_err-counted
 returns-in_err-counted c =
     let a = c.args in
-    let o = cut_all _ a.at 16 _ c.read_u.ensures c.in_err-counted.was in
-    carried c.from_residual.ensures ∙ uncounted_answer a.s.now _ a.at o c.requires.within
+    let o = cut_all _ a.from.at 16 _ c.read_u.ensures c.in_err-counted.was in
+    carried c.from_residual.ensures ∙ uncounted_answer a.from.body.now _ a.from.at o a.from.place.within
 
 pub overflow_mul-need : goal.overflow_mul-need
 overflow_mul-need c =
@@ -37,10 +37,10 @@ pub returns-then-have-need : goal.returns-then-have-need
 returns-then-have-need c =
     let g = counted (goal.at.returns-then-have-need c).In_ok-counted in
     let a = c.args in
-    short_answer a.s.now _ a.at g (width_bits a.accel c.entry_bits-size.ensures) c.if-have-need.true
+    short_answer a.from.body.now _ a.from.at g (width_bits a.accel c.entry_bits-size.ensures) c.if-have-need.true
 
 pub returns : goal.returns
 returns c =
     let g = counted (goal.at.returns c).In_ok-counted in
     let a = c.args in
-    listed_answer a.s.now _ a.at g (width_bits a.accel c.entry_bits-size.ensures) c.if-have-need.false
+    listed_answer a.from.body.now _ a.from.at g (width_bits a.accel c.entry_bits-size.ensures) c.if-have-need.false

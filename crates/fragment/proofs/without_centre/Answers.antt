@@ -17,8 +17,8 @@ returns-in_err-reserved c = search (reading, carried, c.in_err-reserved.was, rul
 pub overflow_cast-front : goal.overflow_cast-front
 overflow_cast-front c = search (got_fits, c.in_ok-reserved.was, rules)
 
-pub around_lists-requires : goal.around_lists-requires
-around_lists-requires c = next_place _ 4 c.in_ok-reserved.was c.read_u.ensures c.requires.short
+pub to-requires : goal.to-requires
+to-requires c = next_place _ 4 c.in_ok-reserved.was c.read_u.ensures c.args.from.place.short
 
 pub returns : goal.returns
 unfolding without_at first_by
@@ -26,5 +26,6 @@ returns c =
     let a = c.args in
     let m = c.in_ok-reserved.was in
     let e = c.read_u.ensures in
-    got _ 0 a.at _ _ unsigned "reserved_zero_future_use_4" 4 _ e m
-    (without_lists _ _ _ _ _ _ (got_all _ _ 4 e m).next c.around_lists.ensures)
+    got _ 0 a.from.at _ _ unsigned "reserved_zero_future_use_4" 4 _ e m
+    (without_lists _ _ _ _ _ _ (got_all _ _ 4 e m).next
+    (rw (c.to.ensures.0, c.to.ensures.1) at c.around_lists.ensures))

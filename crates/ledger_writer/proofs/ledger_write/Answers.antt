@@ -3,37 +3,37 @@
 use native.Mathlib.Omega.{arith}
 use borrow.Author.Rules.{rules}
 use Rattle.format.proofs.Passed.{carried}
-use Rattle.ledger_writer.proofs.WrittenLaws.{known, says_no, says_short, says_yes}
+use Rattle.ledger_writer.proofs.WrittenLaws.{known, room_for, says_no, says_short, says_yes}
 use Rattle.ledger_writer.proofs.ledger_write.Goals as goal
 
 pub returns-in_err-need : goal.returns-in_err-need
 returns-in_err-need c = rw (carried c.from_residual.ensures) (says_no _ _ _ _ c.in_err-need.ensures)
 
-pub returns-then-have-need : goal.returns-then-have-need
-returns-then-have-need c = says_short (known c.in_ok-need.ensures) c.if-have-need.true
+pub returns-in_err-output : goal.returns-in_err-output
+returns-in_err-output c = rw (carried c.from_residual-in_err-output.ensures) (says_short c.args.out.now (known c.in_ok-need.ensures) c.in_err-output.ensures)
 
 pub overflow_sub-need : goal.overflow_sub-need
-overflow_sub-need c = omega (arith, (known c.in_ok-need.ensures).content)
+overflow_sub-need c = omega (arith, room_for c.args.out.now (known c.in_ok-need.ensures) c.in_ok-output.ensures)
 
 pub put_be-requires : goal.put_be-requires
-put_be-requires c = omega (arith, (known c.in_ok-need.ensures).content)
+put_be-requires c = omega (arith, room_for c.args.out.now (known c.in_ok-need.ensures) c.in_ok-output.ensures)
 
 pub put_be-requires-2 : goal.put_be-requires-2
-put_be-requires-2 c = omega (arith, (known c.in_ok-need.ensures).content)
+put_be-requires-2 c = omega (arith, room_for c.args.out.now (known c.in_ok-need.ensures) c.in_ok-output.ensures)
 
 pub put_be-requires-3 : goal.put_be-requires-3
-put_be-requires-3 c = omega (arith, (known c.in_ok-need.ensures).content)
+put_be-requires-3 c = omega (arith, room_for c.args.out.now (known c.in_ok-need.ensures) c.in_ok-output.ensures)
 
 pub slice_bounds-write_content-count : goal.slice_bounds-write_content-count
-slice_bounds-write_content-count c = omega (arith, (known c.in_ok-need.ensures).content)
+slice_bounds-write_content-count c = omega (arith, room_for c.args.out.now (known c.in_ok-need.ensures) c.in_ok-output.ensures)
 
 pub slice_bounds-write_content-start : goal.slice_bounds-write_content-start
-slice_bounds-write_content-start c = omega (arith, (known c.in_ok-need.ensures).content)
+slice_bounds-write_content-start c = omega (arith, room_for c.args.out.now (known c.in_ok-need.ensures) c.in_ok-output.ensures)
 
 pub write_content-requires : goal.write_content-requires
 write_content-requires c = (known c.in_ok-need.ensures).short
 
 pub returns : goal.returns
 returns c =
-    says_yes _ c.version.ensures c.ranges.table_id.fits (known c.in_ok-need.ensures) c.if-have-need.false c.put_be.ensures c.put_be-2.ensures c.put_be-3.ensures
+    says_yes _ c.version.ensures c.ranges.table_id.fits (known c.in_ok-need.ensures) c.in_ok-output.ensures c.put_be.ensures c.put_be-2.ensures c.put_be-3.ensures
     (search rules) c.write_content.ensures

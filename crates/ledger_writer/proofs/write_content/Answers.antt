@@ -1,32 +1,38 @@
--- `write_content`: the content by the layout of the table id.
+-- `write_content`: the content by the list of the table id, or by none.
 -- Assumes nothing.
 use native.Mathlib.Omega.{arith}
 use Rattle.format.proofs.Passed.{carried}
+use Rattle.format.proofs.NamedLaws.{named_list, named_none, layout_raw, headless}
 use Rattle.write_runs.specs.Went.{outside}
 use Rattle.write_runs.proofs.WentLaws.{stay}
-use Rattle.ledger_writer.proofs.WrittenLaws.{as_is, once, listed, unheaded, layout_list, layout_headed, header_ends}
+use Rattle.format.specs.declared.tables.ListTable.TheVariants.{PositionV3}
+use Rattle.ledger_writer.proofs.WrittenLaws.{as_is, once, listed, unheaded, header_ends}
 use Rattle.ledger_writer.proofs.write_content.Goals as goal
 
-pub returns-in-2 : goal.returns-in-2
-returns-in-2 c = once (omega arith) (c.write_association.ensures _)
+pub returns-in-PositionV2 : goal.returns-in-PositionV2
+returns-in-PositionV2 c =
+    rw (named_list c.of.ensures c.in-Some.is)
+    (listed c.in-Some.table (rw (headless c.in-PositionV2.is) (stay (omega arith))) c.write_entries.ensures)
 
-pub returns-in-0-to-3 : goal.returns-in-0-to-3
-returns-in-0-to-3 c = listed (layout_list _ (omega arith) (λ e. omega arith)) (stay (omega arith)) c.write_entries-in-0-to-3.ensures
+pub returns-in_err-head-in-PositionV3 : goal.returns-in_err-head-in-PositionV3
+returns-in_err-head-in-PositionV3 c =
+    rw (carried c.from_residual.ensures, named_list c.of.ensures c.in-Some.is, c.in-PositionV3.is)
+    (unheaded PositionV3 (c.in_err-head-in-PositionV3.ensures (outside c.args.edition)))
 
-pub returns-in_err-head-in-4 : goal.returns-in_err-head-in-4
-returns-in_err-head-in-4 c =
-    let a = c.args in
-    rw (carried c.from_residual.ensures) (unheaded (layout_headed a.table_id (omega arith)) (c.in_err-head-in-4.ensures (outside a.edition)))
+pub write_entries-requires-in-PositionV3 : goal.write_entries-requires-in-PositionV3
+write_entries-requires-in-PositionV3 c =
+    let w = (c.in_ok-head-in-PositionV3.ensures (outside c.args.edition)).to.1 in
+    record { at_value = header_ends w; spare = omega (arith, w.slack) }
 
-pub write_entries-requires : goal.write_entries-requires
-write_entries-requires c =
-    let w = (c.in_ok-head-in-4.ensures (outside c.args.edition)).to in
-    record { placed = record { short = c.requires; within = w.within; behind = omega (arith, w.slack) }; start_value = header_ends w }
+pub returns-in_ok-head-in-PositionV3 : goal.returns-in_ok-head-in-PositionV3
+returns-in_ok-head-in-PositionV3 c =
+    let r = (c.in_ok-head-in-PositionV3.ensures (outside c.args.edition)).to in
+    rw (named_list c.of.ensures c.in-Some.is, c.in-PositionV3.is)
+    (listed PositionV3 r.1 (rw (r.0, c.in-PositionV3.is) at c.write_entries-in-PositionV3.ensures))
 
-pub returns-in_ok-head-in-4 : goal.returns-in_ok-head-in-4
-returns-in_ok-head-in-4 c =
-    let a = c.args in
-    listed (layout_headed a.table_id (omega arith)) (c.in_ok-head-in-4.ensures (outside a.edition)).to c.write_entries.ensures
+pub returns-in-None : goal.returns-in-None
+returns-in-None c = once c.if-table_id-eq2.true (c.write_association.ensures _)
 
-pub returns-in_default : goal.returns-in_default
-returns-in_default c = record { to = as_is (omega arith) c.copy_bytes.ensures }
+pub returns-in-None-2 : goal.returns-in-None-2
+returns-in-None-2 c =
+    record { to = as_is (layout_raw _ (named_none c.of.ensures c.in-None.is) c.if-table_id-eq2.false) c.copy_bytes.ensures }

@@ -6,7 +6,7 @@ use Rattle.ledger_writer.proofs.Listing.{Listing}
 use Rattle.ledger_writer.proofs.write_entries.Given as goal
 
 abbrev pub invariant-loop-at : goal.invariant-loop-at
-invariant-loop-at l = Listing l.edition l.body l.table_id l.start l.place l.initial.out l.at l.there l.count l.out
+invariant-loop-at l = Listing l.edition l.from.body.now l.table l.from.at l.from.place l.initial.out l.at l.there l.count l.out
 
 abbrev pub decreases-loop-at : goal.decreases-loop-at
-decreases-loop-at l = 8 * length l.body - l.at
+decreases-loop-at l = 8 * length l.from.body.now - l.at

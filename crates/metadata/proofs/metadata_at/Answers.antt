@@ -3,8 +3,8 @@
 use Rattle.bits.proofs.Answers.{value_fits}
 use Rattle.metadata.proofs.metadata_at.Goals as goal
 
-pub overflow_cast-value_at : goal.overflow_cast-value_at
-overflow_cast-value_at c = search value_fits
+pub overflow_cast-value : goal.overflow_cast-value
+overflow_cast-value c = search value_fits
 
 pub overflow_cast-result : goal.overflow_cast-result
 overflow_cast-result c = search value_fits

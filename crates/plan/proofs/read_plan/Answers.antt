@@ -16,41 +16,43 @@ use Rattle.plan.proofs.read_plan.Goals.{In_ok-bytes}
 -- what is known behind the plan's head
 head : (c : In_ok-bytes) →
     let x = c.in_ok-bytes.bytes in
-    Head c.args.s.now (x.next + 8 * x.value) c.args.at x.next c.in_ok-id.id.value c.in_ok-kept.kept.value x.value
+    Head c.args.from.body.now (x.next + 8 * x.value) c.args.from.at x.next c.in_ok-id.id.value
+    c.in_ok-kept.kept.value x.value
 head c =
-    head_of c.args.at c.requires.place c.read_u.ensures c.in_ok-id.was c.read_u-2.ensures c.in_ok-kept.was
-    c.read_u-3.ensures c.in_ok-bytes.was
+    let kept_read = rw (c.to.ensures.0, c.to.ensures.1) at c.read_u-2.ensures in
+    let bytes_read = rw (c.to-2.ensures.0, c.to-2.ensures.1) at c.read_u-3.ensures in
+    head_of c.args.from.at c.args.from.place c.read_u.ensures c.in_ok-id.was kept_read c.in_ok-kept.was
+    bytes_read c.in_ok-bytes.was
 
 pub returns-in_err-id : goal.returns-in_err-id
 unfolding plan_at beamhopping
 returns-in_err-id c =
     carried c.from_residual.ensures
-    ∙ no_number (start beamhopping _ _ _ c.requires.place) c.read_u.ensures c.in_err-id.was
+    ∙ no_number (start beamhopping _ _ _ c.args.from.place) c.read_u.ensures c.in_err-id.was
 
-pub read_u-requires-2 : goal.read_u-requires-2
-read_u-requires-2 c =
-    record { place = next_place _ 32 c.in_ok-id.was c.read_u.ensures c.requires.place.short; bits_bound = omega arith }
+pub to-requires : goal.to-requires
+to-requires c = next_place _ 32 c.in_ok-id.was c.read_u.ensures c.args.from.place.short
 
 pub returns-in_err-kept : goal.returns-in_err-kept
 unfolding plan_at beamhopping
 returns-in_err-kept c =
-    let t1 = number (start beamhopping _ _ _ c.requires.place) c.read_u.ensures c.in_ok-id.was in
-    carried c.from_residual-in_err-kept.ensures ∙ no_number t1 c.read_u-2.ensures c.in_err-kept.was
+    let kept_read = rw (c.to.ensures.0, c.to.ensures.1) at c.read_u-2.ensures in
+    let t1 = number (start beamhopping _ _ _ c.args.from.place) c.read_u.ensures c.in_ok-id.was in
+    carried c.from_residual-in_err-kept.ensures ∙ no_number t1 kept_read c.in_err-kept.was
 
-pub read_u-requires-3 : goal.read_u-requires-3
-read_u-requires-3 c =
-    record {
-      place =
-          next_place _ 4 c.in_ok-kept.was c.read_u-2.ensures c.requires.place.short;
-      bits_bound = omega arith;
-    }
+pub to-requires-2 : goal.to-requires-2
+to-requires-2 c =
+    let kept_read = rw (c.to.ensures.0, c.to.ensures.1) at c.read_u-2.ensures in
+    next_place _ 4 c.in_ok-kept.was kept_read c.args.from.place.short
 
 pub returns-in_err-bytes : goal.returns-in_err-bytes
 unfolding plan_at beamhopping
 returns-in_err-bytes c =
-    let t1 = number (start beamhopping _ _ _ c.requires.place) c.read_u.ensures c.in_ok-id.was in
-    let t2 = number t1 c.read_u-2.ensures c.in_ok-kept.was in
-    carried c.from_residual-in_err-bytes.ensures ∙ no_plan t2 c.read_u-3.ensures c.in_err-bytes.was
+    let kept_read = rw (c.to.ensures.0, c.to.ensures.1) at c.read_u-2.ensures in
+    let bytes_read = rw (c.to-2.ensures.0, c.to-2.ensures.1) at c.read_u-3.ensures in
+    let t1 = number (start beamhopping _ _ _ c.args.from.place) c.read_u.ensures c.in_ok-id.was in
+    let t2 = number t1 kept_read c.in_ok-kept.was in
+    carried c.from_residual-in_err-bytes.ensures ∙ no_plan t2 bytes_read c.in_err-bytes.was
 
 pub overflow_mul-end : goal.overflow_mul-end
 overflow_mul-end c = omega (arith, (head (goal.at.overflow_mul-end c).In_ok-bytes).small)
@@ -65,23 +67,31 @@ pub overflow_cast-head : goal.overflow_cast-head
 overflow_cast-head c = got_fits _ _ 32 c.in_ok-id.was c.read_u.ensures tt
 
 pub overflow_cast-head-2 : goal.overflow_cast-head-2
-overflow_cast-head-2 c = got_fits _ _ 4 c.in_ok-kept.was c.read_u-2.ensures tt
+overflow_cast-head-2 c =
+    let kept_read = rw (c.to.ensures.0, c.to.ensures.1) at c.read_u-2.ensures in
+    got_fits _ _ 4 c.in_ok-kept.was kept_read tt
 
 pub overflow_cast-head-3 : goal.overflow_cast-head-3
-overflow_cast-head-3 c = got_fits _ _ 12 c.in_ok-bytes.was c.read_u-3.ensures tt
+overflow_cast-head-3 c =
+    let bytes_read = rw (c.to-2.ensures.0, c.to-2.ensures.1) at c.read_u-3.ensures in
+    got_fits _ _ 12 c.in_ok-bytes.was bytes_read tt
+
+pub to-requires-3 : goal.to-requires-3
+to-requires-3 c = (head (goal.at.to-requires-3 c).In_ok-bytes).reached.place
 
 pub read_fields-requires : goal.read_fields-requires
 read_fields-requires c =
-    let h = head (goal.at.read_fields-requires c).In_ok-bytes in
-    record { place = h.reached.place; at_value = omega (arith, h.begins, c.requires.at_value) }
+    let h = head (goal.at.read_fields-requires c).In_ok-bytes in omega (arith, h.begins, c.to-3.ensures, c.requires)
 
 pub returns-in_err-found : goal.returns-in_err-found
 returns-in_err-found c =
+    let fields_read = rw (c.to-3.ensures.0, c.to-3.ensures.1) at c.read_fields.ensures in
     carried c.from_residual-in_err-found.ensures
     ∙ cut_fields _ _ _ _ _ _ _ (head (goal.at.returns-in_err-found c).In_ok-bytes)
-    c.read_fields.ensures c.in_err-found.was
+    fields_read c.in_err-found.was
 
 pub returns : goal.returns
 returns c =
+    let fields_read = rw (c.to-3.ensures.0, c.to-3.ensures.1) at c.read_fields.ensures in
     c.closed.ensures ∙ got_fields _ _ _ _ _ _ _ (head (goal.at.returns c).In_ok-bytes)
-    c.read_fields.ensures c.in_ok-found.was
+    fields_read c.in_ok-found.was

@@ -2,8 +2,9 @@
 -- Assumes nothing.
 use Prim.Native.Nat.{◌+◌}
 use mathlib.Core.Path.{◌∙◌}
+use native.Mathlib.Nat.{add-zero}
 use native.Mathlib.Omega.{arith}
-use Rattle.bits.specs.Read.{Place, Room}
+use Rattle.bits.specs.Read.{Room}
 use Rattle.bits.proofs.Answers.{value_below, value_fits}
 use Rattle.format.proofs.Passed.{carried}
 use Rattle.bit_reader.proofs.Reading.{enough_room}
@@ -12,36 +13,37 @@ use Rattle.plan_modes.proofs.bitmap_at.Goals as goal
 use Rattle.plan_modes.proofs.bitmap_at.Goals.{In_ok-enough}
 
 -- the slots are there
-slots : (c : In_ok-enough) → Room c.args.s.now (c.args.at + 32) c.value_at-size.result
+slots : (c : In_ok-enough) → Room c.args.from.body.now (c.args.from.at + 32) c.value-size.result
 slots c =
-    let p : Place c.args.s.now (c.args.at + 32) = record { short = c.requires.room.short; within = omega arith } in
-    enough_room _ _ _ _ c.enough.ensures c.in_ok-enough.was p
+    let tested = rw (c.to.ensures.0, c.to.ensures.1) at c.enough.ensures in
+    enough_room _ _ _ _ tested c.in_ok-enough.was (rw (c.to.ensures.0, c.to.ensures.1) at c.to.result.place)
 
 pub returns-in_err-enough : goal.returns-in_err-enough
 returns-in_err-enough c = λ e.
-    let a = c.args in
+    let a = c.args.from in
+    let tested = rw (c.to.ensures.0, c.to.ensures.1) at c.enough.ensures in
     carried c.from_residual.ensures
-    ∙ bitmap_no a.s.now e a.at (omega arith) c.value_at-size.ensures c.enough.ensures c.in_err-enough.was
+    ∙ bitmap_no a.body.now e a.at (omega arith) c.value-size.ensures tested c.in_err-enough.was
 
 pub overflow_add-length : goal.overflow_add-length
-overflow_add-length c = record { fits = omega (arith, value_below _ _ 15 c.value_at-size.ensures) }
+overflow_add-length c = record { fits = omega (arith, value_below _ _ 15 c.value-size.ensures) }
 
 pub overflow_cast-result : goal.overflow_cast-result
-overflow_cast-result c = value_fits _ _ 15 c.value_at-size.ensures tt
+overflow_cast-result c = value_fits _ _ 15 c.value-size.ensures tt
 
 pub overflow_cast-result-2 : goal.overflow_cast-result-2
-overflow_cast-result-2 c = value_fits _ _ 15 c.value_at.ensures tt
+overflow_cast-result-2 c = value_fits _ _ 15 c.value.ensures tt
 
 pub slots_on-requires : goal.slots_on-requires
 slots_on-requires c =
     let r = slots (goal.at.slots_on-requires c).In_ok-enough in
-    (omega (arith, r.fits), omega (arith, value_below _ _ 15 c.value_at-size.ensures), omega (arith, r.short))
+    (omega (arith, r.fits), omega (arith, value_below _ _ 15 c.value-size.ensures), omega (arith, r.short))
 
 pub overflow_cast-result-3 : goal.overflow_cast-result-3
-overflow_cast-result-3 c = value_fits _ _ 1 c.value_at-2.ensures tt
+overflow_cast-result-3 c = value_fits _ _ 1 c.value-2.ensures tt
 
 pub overflow_cast-result-4 : goal.overflow_cast-result-4
-overflow_cast-result-4 c = value_fits _ _ 1 c.value_at-3.ensures tt
+overflow_cast-result-4 c = value_fits _ _ 1 c.value-3.ensures tt
 
 pub overflow_mul-result : goal.overflow_mul-result
 overflow_mul-result c =
@@ -57,8 +59,8 @@ overflow_cast-result-6 c =
 
 pub returns : goal.returns
 returns c = λ e.
-    let a = c.args in
+    let a = c.args.from in
     let r = slots (goal.at.returns c).In_ok-enough in
-    bitmap_there a.s.now e a.at (omega arith) c.value_at-2.ensures c.value_at-size.ensures c.value_at-3.ensures
-    c.value_at.ensures (omega arith)
+    bitmap_there a.body.now e a.at (omega arith) (rw add-zero at c.value-2.ensures) c.value-size.ensures
+    c.value-3.ensures c.value.ensures (omega arith)
     (omega (arith, r.fits)) c.slots_on.ensures

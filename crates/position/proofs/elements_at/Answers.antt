@@ -1,6 +1,7 @@
 -- `elements_at` meets its contract: each field stands where the description has it.
 -- Assumes nothing.
 use Prim.Native.Nat.{◌+◌}
+use native.Mathlib.Nat.{add-zero}
 use native.Mathlib.Omega.{arith}
 use Rattle.format.specs.ByName.{first_by}
 use Rattle.format.specs.At.{found_at}
@@ -49,18 +50,19 @@ pub returns : goal.returns
 unfolding first_by
 returns c =
     let a = c.args in
-    elements_there _ a.at (omega arith)
+    let first = rw (add-zero a.from.at) at c.value.ensures in
+    elements_there _ a.from.at (omega arith)
     (λ i. found_at
     (Sgp4
-    (c.value_at.ensures i)
-    (c.value_at-2.ensures i)
-    (c.value_at-3.ensures i)
-    (c.value_at-4.ensures i)
-    (c.value_at-5.ensures i)
-    (c.value_at-6.ensures i)
-    (c.value_at-7.ensures i)
-    (c.value_at-8.ensures i)
-    (c.value_at-9.ensures i)
-    (c.value_at-10.ensures i)
-    (c.value_at-11.ensures i)
-    (c.value_at-12.ensures i)) (a.at + 344))
+    (first i)
+    (c.value-2.ensures i)
+    (c.value-3.ensures i)
+    (c.value-4.ensures i)
+    (c.value-5.ensures i)
+    (c.value-6.ensures i)
+    (c.value-7.ensures i)
+    (c.value-8.ensures i)
+    (c.value-9.ensures i)
+    (c.value-10.ensures i)
+    (c.value-11.ensures i)
+    (c.value-12.ensures i)) (a.from.at + 344))

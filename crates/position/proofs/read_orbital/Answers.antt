@@ -1,6 +1,7 @@
 -- `read_orbital` meets its contract: by the test that all of it is there.
 -- Assumes nothing.
 use Rattle.std.proofs.Common.{◌+◌, arith, rules}
+use native.Mathlib.Nat.{add-zero}
 use lib.Dec.{eqb}
 use Rattle.format.specs.ByName.{first_by}
 use Rattle.format.specs.At.{found_at}
@@ -16,19 +17,19 @@ pub returns-in_err-enough : goal.returns-in_err-enough
 unfolding orbital_at
 returns-in_err-enough c = search (groups, carried, c.in_err-enough.was, rules)
 
-pub value_at-requires-clause-room : goal.value_at-requires-clause-room
-value_at-requires-clause-room c =
-    let there = enough_room _ _ _ _ c.enough.ensures c.in_ok-enough.was c.requires in
+pub value-requires-clause-room : goal.value-requires-clause-room
+value-requires-clause-room c =
+    let there = enough_room _ _ _ _ c.enough.ensures c.in_ok-enough.was c.args.from.place in
     record { short = there.short; fits = omega arith }
 
-pub value_at-requires-2-clause-room : goal.value_at-requires-2-clause-room
-value_at-requires-2-clause-room c =
-    let there = enough_room _ _ _ _ c.enough.ensures c.in_ok-enough.was c.requires in
+pub value-requires-2-clause-room : goal.value-requires-2-clause-room
+value-requires-2-clause-room c =
+    let there = enough_room _ _ _ _ c.enough.ensures c.in_ok-enough.was c.args.from.place in
     record { short = there.short; fits = omega arith }
 
-pub value_at-requires-3-clause-room : goal.value_at-requires-3-clause-room
-value_at-requires-3-clause-room c =
-    let there = enough_room _ _ _ _ c.enough.ensures c.in_ok-enough.was c.requires in
+pub value-requires-3-clause-room : goal.value-requires-3-clause-room
+value-requires-3-clause-room c =
+    let there = enough_room _ _ _ _ c.enough.ensures c.in_ok-enough.was c.args.from.place in
     record { short = there.short; fits = omega arith }
 
 pub overflow_cast-result : goal.overflow_cast-result
@@ -41,5 +42,6 @@ pub returns : goal.returns
 unfolding first_by
 returns c =
     let a = c.args in
-    orbital_there _ a.at (enough_room _ _ _ _ c.enough.ensures c.in_ok-enough.was c.requires).fits
-    (λ i. found_at (Orbital (c.value_at.ensures i) (eqb (c.value_at-2.ensures i) 1) (c.value_at-3.ensures i)) (a.at + 24))
+    let first = rw (add-zero a.from.at) at c.value.ensures in
+    orbital_there _ a.from.at (enough_room _ _ _ _ c.enough.ensures c.in_ok-enough.was c.args.from.place).fits
+    (λ i. found_at (Orbital (first i) (eqb (c.value-2.ensures i) 1) (c.value-3.ensures i)) (a.from.at + 24))

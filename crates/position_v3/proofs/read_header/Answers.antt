@@ -26,20 +26,16 @@ returns-in_err-enough-2 c =
     carried c.from_residual-in_err-enough-2.ensures
     ∙ header_short c.args.s.now c.enough.ensures c.in_ok-enough.was c.enough-2.ensures c.in_err-enough-2.was
 
+pub to-requires : goal.to-requires
+to-requires c = let r = room (goal.at.to-requires c).In_ok-enough-2 in
+    record { short = r.short; within = omega arith }
+
 pub stamp_at-stamp-requires : goal.stamp_at-stamp-requires
 stamp_at-stamp-requires c = let r = room (goal.at.stamp_at-stamp-requires c).In_ok-enough-2 in
-    record { short = r.short; fits = omega arith }
-
-pub value_at-requires-clause-room : goal.value_at-requires-clause-room
-value_at-requires-clause-room c = let r = room (goal.at.value_at-requires-clause-room c).In_ok-enough-2 in
-    record { short = r.short; fits = omega arith }
+    rw (c.to.ensures.0, c.to.ensures.1) (record { short = r.short; fits = omega arith })
 
 pub overflow_cast-result : goal.overflow_cast-result
 overflow_cast-result c = search value_fits
-
-pub value_at-requires-2-clause-room : goal.value_at-requires-2-clause-room
-value_at-requires-2-clause-room c = let r = room (goal.at.value_at-requires-2-clause-room c).In_ok-enough-2 in
-    record { short = r.short; fits = omega arith }
 
 pub overflow_cast-result-2 : goal.overflow_cast-result-2
 overflow_cast-result-2 c = search value_fits
@@ -47,12 +43,13 @@ overflow_cast-result-2 c = search value_fits
 pub returns : goal.returns
 returns c =
     let r = room (goal.at.returns c).In_ok-enough-2 in
+    let said = rw (c.to.ensures.0, c.to.ensures.1) at c.stamp_at-stamp.ensures in
     (λ i.
-    let stamp = c.stamp_at-stamp.ensures i in
+    let stamp = said i in
     found_at
     (record {
-      oem_version_major = c.value_at.ensures i;
-      oem_version_minor = c.value_at-2.ensures i;
+      oem_version_major = c.value.ensures i;
+      oem_version_minor = c.value-2.ensures i;
       creation_date_year = stamp.year;
       creation_date_day = stamp.day;
       creation_date_day_fraction = stamp.fraction;

@@ -1,15 +1,12 @@
 -- `read_bitmap` goes through the fields of a map of slots.
 -- Assumes nothing.
 use Prim.Native.Nat.{ℕ}
-use mathlib.Core.List.{[]}
 use native.Mathlib.Omega.{arith}
 use borrow.Author.Rules.{rules}
 use Rattle.format.specs.Syntax.{Syntax, end, slots}
 use Rattle.format.specs.declared.Fault.TheVariants.{SlotsCut}
 use Rattle.runs.specs.Lines.{sign_of, width_of, run}
-use Rattle.read_runs.specs.Came.{some_way}
 use Rattle.read_runs.proofs.CameLaws.{stops, starts, then, need_any}
-use Rattle.read_runs.proofs.Runs.{placed_on}
 use Rattle.write_plans.proofs.Names.{size_names, slot_names, after_size}
 use Rattle.read_plans.proofs.read_bitmap.Goals as goal
 
@@ -22,9 +19,6 @@ unfolding run sign_of width_of
 returns-in_err-size c =
     λ way. starts (need_any _ _ _ _ _ _) (stops (search rules) (c.in_err-size.ensures.laid way size_names after_size))
 
-pub read_run-requires-2-clause-ledger_placed : goal.read_run-requires-2-clause-ledger_placed
-read_run-requires-2-clause-ledger_placed c = placed_on c.requires (c.in_ok-size.ensures.laid some_way [] (λ _. end)).to
-
 pub returns-in_err-current : goal.returns-in_err-current
 unfolding run sign_of width_of
 returns-in_err-current c =
@@ -32,13 +26,9 @@ returns-in_err-current c =
     (then (c.in_ok-size.ensures.laid way size_names after_size).to
     (stops (search rules) (c.in_err-current.ensures.laid way slot_names (rest c.in_ok-size.size.last))))
 
-pub read_slots-requires-clause-ledger_placed : goal.read_slots-requires-clause-ledger_placed
-read_slots-requires-clause-ledger_placed c =
-    placed_on (placed_on c.requires (c.in_ok-size.ensures.laid some_way [] (λ _. end)).to) (c.in_ok-current.ensures.laid some_way [] (λ _. end)).to
-
-pub read_slots-requires-clause-m_bound : goal.read_slots-requires-clause-m_bound
+pub read_slots-requires : goal.read_slots-requires
 unfolding width_of
-read_slots-requires-clause-m_bound c = omega (arith, c.in_ok-size.ensures.result_bound)
+read_slots-requires c = record { m_bound = omega (arith, c.in_ok-size.ensures.result_bound) }
 
 pub returns : goal.returns
 unfolding run sign_of width_of

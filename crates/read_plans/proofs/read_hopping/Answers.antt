@@ -8,7 +8,6 @@ use Rattle.format.specs.Tables.{mode}
 use Rattle.runs.specs.Lines.{sign_of, width_of, size_of, run}
 use Rattle.read_runs.specs.Came.{some_way}
 use Rattle.read_runs.proofs.CameLaws.{stops, then}
-use Rattle.read_runs.proofs.Runs.{placed_on}
 use Rattle.read_runs.proofs.Moved.{run_moved}
 use Rattle.write_plans.proofs.Names.{mode_names, time_names, after_mode}
 use Rattle.read_plans.proofs.TakenLaws.{spared}
@@ -18,18 +17,11 @@ pub returns-in_err-head-clause-laid : goal.returns-in_err-head-clause-laid
 unfolding run sign_of width_of
 returns-in_err-head-clause-laid c = λ way. stops (search rules) (c.in_err-head.ensures.laid way mode_names after_mode)
 
-pub read_run-requires-2-clause-ledger_placed : goal.read_run-requires-2-clause-ledger_placed
-read_run-requires-2-clause-ledger_placed c = placed_on c.requires (c.in_ok-head.ensures.laid some_way [] (λ _. end)).to
-
 pub returns-in_err-clocks-clause-laid : goal.returns-in_err-clocks-clause-laid
 unfolding run sign_of width_of
 returns-in_err-clocks-clause-laid c =
     λ way. then (c.in_ok-head.ensures.laid way mode_names after_mode).to
     (stops (search rules) (c.in_err-clocks.ensures.laid way time_names (λ _. mode c.in_ok-head.head.last)))
-
-pub read_mode-requires : goal.read_mode-requires
-read_mode-requires c =
-    placed_on (placed_on c.requires (c.in_ok-head.ensures.laid some_way [] (λ _. end)).to) (c.in_ok-clocks.ensures.laid some_way [] (λ _. end)).to
 
 pub returns-clause-laid : goal.returns-clause-laid
 unfolding run sign_of width_of
@@ -43,7 +35,7 @@ returns-clause-spared c =
     spared
     (omega (
       arith,
-      run_moved (6 ∷ 2 ∷ []) c.requires.within c.in_ok-head.ensures.laid,
-      (c.in_ok-clocks.ensures.laid some_way [] (λ _. end)).to.slack,
+      run_moved (6 ∷ 2 ∷ []) c.args.from.placed.within c.in_ok-head.ensures.laid,
+      (c.in_ok-clocks.ensures.laid some_way [] (λ _. end)).to.came.slack,
     ))
     (c.read_mode.ensures some_way)

@@ -9,4 +9,4 @@ pub returns-in-Second : goal.returns-in-Second
 unfolding run sign_of width_of
 returns-in-Second c =
     let laid = c.read_run.ensures.laid in
-    rw c.in-Second.is (record { to = (λ way k. laid way ("plan_length" ∷ []) (λ _. k), ahead_of _ c.requires.within laid) })
+    rw c.in-Second.is (record { to = (λ way k. laid way ("plan_length" ∷ []) (λ _. k), ahead_of _ c.args.from.placed.within laid) })

@@ -15,7 +15,7 @@ use Rattle.read_runs.proofs.read_line.Goals as goal
 pub returns-then-ledger-place : goal.returns-then-ledger-place
 returns-then-ledger-place c = record {
   laid = λ way nm k. record
-      { to = rw c.refused_at.ensures (missing _ _ _ nm _ k c.size_of-size.ensures c.requires.ledger_placed.within c.if-ledger-place.true) };
+      { to = rw c.refused_at.ensures (missing _ _ _ nm _ k c.size_of-size.ensures c.requires.placed.within c.if-ledger-place.true) };
   result_bound = pow_pos _;
 }
 
@@ -24,7 +24,7 @@ get_be-x-requires c =
     let pre = c.requires in
     omega (
       arith,
-      pre.ledger_placed.within,
+      c.requires.placed.within,
       (mark_facts c.args.mark pre.valid).eight,
       c.size_of-size.ensures,
       c.if-ledger-place.false,
@@ -41,24 +41,16 @@ returns-then-shown_of-x c =
     let shown = c.shown_of.ensures in record {
       laid = λ way nm k. record {
         to = rw c.refused_at-then-shown_of-x.ensures
-            (wrong _ _ _ nm a.mark k size pre.ledger_placed.within there number low (λ z. c.if-shown_of-x.true (shown ∙ z)));
+            (wrong _ _ _ nm a.mark k size pre.placed.within there number low (λ z. c.if-shown_of-x.true (shown ∙ z)));
       };
       result_bound = pow_pos _;
     }
 
-pub overflow_add-step : goal.overflow_add-step
-overflow_add-step c =
-    let a = c.args in
+pub overflow_add-end-2 : goal.overflow_add-end-2
+overflow_add-end-2 c =
     let pre = c.requires in
-    omega (
-      arith,
-      pre.ledger_placed.within,
-      pre.ledger_placed.short,
-      pre.ledger_placed.behind,
-      (mark_facts a.mark pre.valid).some,
-      (mark_facts a.mark pre.valid).most,
-      c.width_of-width.ensures,
-    )
+    let p = pre.placed in
+    omega (arith, p.within, p.short, p.behind, (mark_facts c.args.mark pre.valid).most, c.width_of-width.ensures)
 
 pub returns-then-out-eq0 : goal.returns-then-out-eq0
 returns-then-out-eq0 c =
@@ -73,7 +65,7 @@ returns-then-out-eq0 c =
     let width = c.width_of-width.ensures in
     let some = (mark_facts a.mark pre.valid).some in record {
       laid = λ way nm k. record {
-        to = line_done nm a.mark k pre.valid width size pre.ledger_placed.within there number.ensures low (sym shown ∙ right) (λ h. absurd (omega (arith, c.if-out-eq0.true, some, width))) (refl);
+        to = line_done nm a.mark k pre.valid width size pre.placed.within there number.ensures low (sym shown ∙ right) (λ h. absurd (omega (arith, c.if-out-eq0.true, some, width))) (refl);
       };
       result_bound = rw low (mod-lt number.result (pow_pos (width_of a.mark)));
     }
@@ -84,9 +76,9 @@ lay-requires c =
     let pre = c.requires in
     omega (
       arith,
-      pre.ledger_placed.within,
-      pre.ledger_placed.short,
-      pre.ledger_placed.behind,
+      pre.placed.within,
+      pre.placed.short,
+      pre.placed.behind,
       (mark_facts a.mark pre.valid).some,
       (mark_facts a.mark pre.valid).most,
       c.width_of-width.ensures,
@@ -104,7 +96,7 @@ returns c =
     let right = c.if-shown_of-x.false in
     let width = c.width_of-width.ensures in record {
       laid = λ way nm k. record {
-        to = line_done nm a.mark k pre.valid width size pre.ledger_placed.within there number.ensures low (sym shown ∙ right) (fits a.out.now _ _ _ _ c.lay.ensures (length_digits 2 _ _)) (search rules);
+        to = line_done nm a.mark k pre.valid width size pre.placed.within there number.ensures low (sym shown ∙ right) (fits a.out.now _ _ _ _ c.lay.ensures (length_digits 2 _ _)) (search rules);
       };
       result_bound = rw low (mod-lt number.result (pow_pos (width_of a.mark)));
     }

@@ -1,16 +1,13 @@
 -- `read_fragment`: a proof with the shape of the code, by the description of id 1.
 -- Assumes nothing.
 use Prim.Native.Nat.{ℕ}
-use mathlib.Core.List.{[]}
 use lib.Dec.{eqb}
 use borrow.Author.Rules.{rules}
 use borrow.Author.Tests.{eq-eqb, ne_eqb}
-use Rattle.format.specs.Syntax.{Syntax, when, end}
+use Rattle.format.specs.Syntax.{Syntax, when}
 use Rattle.format.specs.Tables.{u, fragment, centre, delivery}
 use Rattle.runs.specs.Lines.{run, sign_of, width_of}
-use Rattle.read_runs.specs.Came.{some_way}
 use Rattle.read_runs.proofs.CameLaws.{stops, starts, then, when_yes, when_no, need_any}
-use Rattle.read_runs.proofs.Runs.{placed_on}
 use Rattle.write_tables.specs.Lists.{lists}
 use Rattle.runs.proofs.Names as names
 use Rattle.read_tables.proofs.read_fragment.Goals as goal
@@ -26,18 +23,11 @@ pub returns-in_err-cell : goal.returns-in_err-cell
 unfolding fragment run sign_of width_of
 returns-in_err-cell c = λ way. stops (search rules) (c.in_err-cell.ensures.laid way names.cell flag)
 
-pub read_run-requires-2-clause-ledger_placed : goal.read_run-requires-2-clause-ledger_placed
-read_run-requires-2-clause-ledger_placed c = placed_on c.requires (c.in_ok-cell.ensures.laid some_way [] (λ _. end)).to
-
 pub returns-in_err-flag : goal.returns-in_err-flag
 unfolding fragment run sign_of width_of
 returns-in_err-flag c =
     λ way. then (c.in_ok-cell.ensures.laid way names.cell flag).to
     (stops (search rules) (c.in_err-flag.ensures.laid way names.last (middle c.in_ok-cell.cell.last)))
-
-pub read_run-requires-then-cell-eq1-clause-ledger_placed : goal.read_run-requires-then-cell-eq1-clause-ledger_placed
-read_run-requires-then-cell-eq1-clause-ledger_placed c =
-    placed_on (placed_on c.requires (c.in_ok-cell.ensures.laid some_way [] (λ _. end)).to) (c.in_ok-flag.ensures.laid some_way [] (λ _. end)).to
 
 pub returns-in_err-centre : goal.returns-in_err-centre
 unfolding fragment run sign_of width_of
@@ -47,12 +37,6 @@ returns-in_err-centre c =
     (starts (when_yes _ _ _ _ _ _ (eq-eqb _ _ c.if-cell-eq1.true))
     (starts (need_any _ _ _ _ _ _) (stops (search rules) (c.in_err-centre.ensures.laid way names.centre lists)))))
 
-pub read_lists-requires : goal.read_lists-requires
-read_lists-requires c =
-    placed_on
-    (placed_on (placed_on c.requires (c.in_ok-cell.ensures.laid some_way [] (λ _. end)).to) (c.in_ok-flag.ensures.laid some_way [] (λ _. end)).to)
-    (c.in_ok-centre.ensures.laid some_way [] (λ _. end)).to
-
 pub returns-then-cell-eq1 : goal.returns-then-cell-eq1
 unfolding fragment run sign_of width_of
 returns-then-cell-eq1 c =
@@ -61,10 +45,6 @@ returns-then-cell-eq1 c =
     (starts (when_yes _ _ _ _ _ _ (eq-eqb _ _ c.if-cell-eq1.true))
     (then (starts (need_any _ _ _ _ _ _) (c.in_ok-centre.ensures.laid way names.centre lists)).to (c.read_lists.ensures way))))
 
-pub read_run-requires-3-clause-ledger_placed : goal.read_run-requires-3-clause-ledger_placed
-read_run-requires-3-clause-ledger_placed c =
-    placed_on (placed_on c.requires (c.in_ok-cell.ensures.laid some_way [] (λ _. end)).to) (c.in_ok-flag.ensures.laid some_way [] (λ _. end)).to
-
 pub returns-in_err-none : goal.returns-in_err-none
 unfolding fragment run sign_of width_of
 returns-in_err-none c =
@@ -72,12 +52,6 @@ returns-in_err-none c =
     (then (c.in_ok-flag.ensures.laid way names.last (middle c.in_ok-cell.cell.last)).to
     (starts (when_no _ _ _ _ _ _ (ne_eqb _ _ c.if-cell-eq1.false))
     (stops (search rules) (c.in_err-none.ensures.laid way names.no_centre lists))))
-
-pub read_lists-requires-2 : goal.read_lists-requires-2
-read_lists-requires-2 c =
-    placed_on
-    (placed_on (placed_on c.requires (c.in_ok-cell.ensures.laid some_way [] (λ _. end)).to) (c.in_ok-flag.ensures.laid some_way [] (λ _. end)).to)
-    (c.in_ok-none.ensures.laid some_way [] (λ _. end)).to
 
 pub returns : goal.returns
 unfolding fragment run sign_of width_of

@@ -1,15 +1,12 @@
 -- `read_lists`: the three lists one after the other.
 -- Assumes nothing.
 use Prim.Native.Nat.{ℕ, ◌*◌}
-use mathlib.Core.List.{[]}
 use borrow.Author.Rules.{rules}
 use Rattle.format.specs.Syntax.{Syntax, need, end}
 use Rattle.format.specs.Tables.{times, system, new, obsolescent}
 use Rattle.format.specs.declared.Fault.TheVariants.{NewSystemsCut, ObsolescentSystemsCut}
 use Rattle.runs.specs.Lines.{run, sign_of, width_of}
-use Rattle.read_runs.specs.Came.{some_way}
 use Rattle.read_runs.proofs.CameLaws.{stops, starts, then, need_any}
-use Rattle.read_runs.proofs.Runs.{placed_on}
 use Rattle.runs.proofs.Names as names
 use Rattle.read_tables.proofs.read_lists.Goals as goal
 
@@ -23,18 +20,11 @@ pub returns-in_err-ids : goal.returns-in_err-ids
 unfolding run sign_of width_of
 returns-in_err-ids c = λ way. stops (search rules) (starts (need_any _ _ _ _ _ _) (c.in_err-ids.ensures way names.delivery new))
 
-pub read_run-requires-clause-ledger_placed : goal.read_run-requires-clause-ledger_placed
-read_run-requires-clause-ledger_placed c = placed_on c.requires (c.in_ok-ids.ensures some_way [] end).to
-
 pub returns-in_err-news : goal.returns-in_err-news
 unfolding run sign_of width_of
 returns-in_err-news c =
     λ way. then (starts (need_any _ _ _ _ _ _) (c.in_ok-ids.ensures way names.delivery new)).to
     (stops (search rules) (c.in_err-news.ensures.laid way names.new_count news))
-
-pub read_counted-requires-2-clause-ledger_placed : goal.read_counted-requires-2-clause-ledger_placed
-read_counted-requires-2-clause-ledger_placed c =
-    placed_on (placed_on c.requires (c.in_ok-ids.ensures some_way [] end).to) (c.in_ok-news.ensures.laid some_way [] (λ _. end)).to
 
 pub returns-in_err-new : goal.returns-in_err-new
 unfolding run sign_of width_of
@@ -43,12 +33,6 @@ returns-in_err-new c =
     (then (c.in_ok-news.ensures.laid way names.new_count news).to
     (stops (search rules) (starts (need_any _ _ _ _ _ _) (c.in_err-new.ensures way names.new_system obsolescent))))
 
-pub read_run-requires-2-clause-ledger_placed : goal.read_run-requires-2-clause-ledger_placed
-read_run-requires-2-clause-ledger_placed c =
-    placed_on
-    (placed_on (placed_on c.requires (c.in_ok-ids.ensures some_way [] end).to) (c.in_ok-news.ensures.laid some_way [] (λ _. end)).to)
-    (c.in_ok-new.ensures some_way [] end).to
-
 pub returns-in_err-olds : goal.returns-in_err-olds
 unfolding run sign_of width_of
 returns-in_err-olds c =
@@ -56,14 +40,6 @@ returns-in_err-olds c =
     (then (c.in_ok-news.ensures.laid way names.new_count news).to
     (then (starts (need_any _ _ _ _ _ _) (c.in_ok-new.ensures way names.new_system obsolescent)).to
     (stops (search rules) (c.in_err-olds.ensures.laid way names.old_count olds))))
-
-pub read_counted-requires-3-clause-ledger_placed : goal.read_counted-requires-3-clause-ledger_placed
-read_counted-requires-3-clause-ledger_placed c =
-    placed_on
-    (placed_on
-    (placed_on (placed_on c.requires (c.in_ok-ids.ensures some_way [] end).to) (c.in_ok-news.ensures.laid some_way [] (λ _. end)).to)
-    (c.in_ok-new.ensures some_way [] end).to)
-    (c.in_ok-olds.ensures.laid some_way [] (λ _. end)).to
 
 pub returns : goal.returns
 unfolding run sign_of width_of

@@ -23,7 +23,7 @@ typed_entry-requires c =
     let walk = c.walk_body in
     let sure = sure_of c.in_ok-walk.was walk.ensures.sure in
     let starts = subst (Starts a.body.now) c.in-Some.is sure.starts in (
-      (record { short = sure.short; within = starts.0 }, starts.1),
+      starts.1,
       λ z. first_place a.body.now a.index
           (subst (λ (k : ℕ). walk.result ≡ seek a.body.now a.index walked Err (body_starts k a.body.now)) z walk.ensures.value)
           c.in_ok-walk.was c.in-Some.is,

@@ -6,4 +6,4 @@ use Rattle.systems.proofs.Lists.{Tested}
 use Rattle.systems.proofs.read_systems.Given as goal
 
 abbrev pub invariant-loop-i : goal.invariant-loop-i
-invariant-loop-i l = Tested (Ok l.list) l.s (l.at + 10) l.list.value.count l.i
+invariant-loop-i l = Tested (Ok l.list) l.from.body.now (l.from.at + 10) l.list.value.count l.i

@@ -3,7 +3,7 @@
 use Rattle.std.proofs.Common.{refl, rules, arith}
 use Rattle.format.specs.ByName.{first_by}
 use Rattle.bits.proofs.Answers.{value_fits}
-use Rattle.systems.proofs.Elements.{placed, no_element, element, was_read, was_refused, cut_system, id_and_clock}
+use Rattle.systems.proofs.Elements.{placed, clock_behind, no_element, element, was_read, was_refused, cut_system, id_and_clock}
 use Rattle.systems.proofs.system_at.Goals as goal
 
 pub returns-in_err-at : goal.returns-in_err-at
@@ -13,6 +13,9 @@ pub overflow_add-at : goal.overflow_add-at
 overflow_add-at c =
     let there = (placed _ _ 10 _ c.place_at.ensures c.in_ok-at.was).room in
     record { fits = omega arith }
+
+pub invariant_of-clock_within : goal.invariant_of-clock_within
+invariant_of-clock_within c = record { place = clock_behind _ _ (placed _ _ 10 _ c.place_at.ensures c.in_ok-at.was).room }
 
 pub clock_within-requires : goal.clock_within-requires
 clock_within-requires c =
@@ -25,11 +28,6 @@ returns-in_err-time c =
     let no = was_refused c.ok.ensures.value c.in_err-time.was in
     element _ _ 10 _ c.place_at.ensures _ _ _ c.in_ok-at.was
     (cut_system _ _ _ _ _ "system_id" "time" _ there.room c.clock_within.ensures no.1 c.from_residual-in_err-time.ensures)
-
-pub value_at-requires-clause-room : goal.value_at-requires-clause-room
-value_at-requires-clause-room c =
-    let there = (placed _ _ 10 _ c.place_at.ensures c.in_ok-at.was).room in
-    record { short = there.short; fits = omega arith }
 
 pub overflow_cast-result : goal.overflow_cast-result
 overflow_cast-result c = search value_fits

@@ -1,18 +1,19 @@
 -- `write_position3` meets its contract: the flags one behind the other, then what they announce.
 -- Assumes nothing.
 use Prim.Native.Nat.{ℕ}
-use Rattle.format.specs.Syntax.{Syntax}
-use Rattle.format.specs.Tables.{bits, position3}
+use lib.Dec.{eqb}
+use Rattle.format.specs.Syntax.{Syntax, when}
+use Rattle.format.specs.Tables.{bits, metadata, ephemerides, position3}
 use Rattle.runs.specs.Lines.{run, sign_of, width_of}
 use Rattle.runs.proofs.Names as names
 use Rattle.format.proofs.Passed.{carried}
 use Rattle.write_runs.proofs.WentLaws.{stops, on}
-use Rattle.runs.specs.Flagged.{flagged}
+use Rattle.runs.proofs.FlagLaws.{flag_is}
 use Rattle.write_ephemeris.proofs.write_position3.Goals as goal
 
 -- what follows each flag, with those in front of it
 abbrev sixth : ℕ → ℕ → ℕ → ℕ → ℕ → Syntax
-sixth meta start stop accel cov = flagged (record { metadata = meta; start = start; stop = stop; acceleration = accel; covariance = cov })
+sixth meta start stop accel cov = when (eqb meta 1) (metadata start stop (ephemerides accel cov)) (ephemerides accel cov)
 
 abbrev fifth : ℕ → ℕ → ℕ → ℕ → Syntax
 fifth meta start stop accel = bits "covariance_flag" 1 (sixth meta start stop accel)
@@ -78,9 +79,16 @@ returns c =
     let start = c.in_ok-start.start.last in
     let stop = c.in_ok-stop.stop.last in
     let accel = c.in_ok-acceleration.acceleration.last in
+    let cov = c.in_ok-covariance.covariance.last in
     λ e. (on (c.in_ok-metadata.ensures.ran e names.satellite3 second)
     (on (c.in_ok-start.ensures.ran e names.start (third meta))
     (on (c.in_ok-stop.ensures.ran e names.stop (fourth meta start))
     (on (c.in_ok-acceleration.ensures.ran e names.accel (fifth meta start stop))
     (on (c.in_ok-covariance.ensures.ran e names.cov (sixth meta start stop accel))
-    (c.write_flagged.ensures e))))))
+    (rw (
+      flag_is start c.in_ok-start.ensures.result_bound,
+      flag_is stop c.in_ok-stop.ensures.result_bound,
+      flag_is accel c.in_ok-acceleration.ensures.result_bound,
+      flag_is cov c.in_ok-covariance.ensures.result_bound,
+    )
+    at (c.write_flagged.ensures e)))))))

@@ -23,11 +23,11 @@ returns-in_err-current c =
     rw (carried c.from_residual-in_err-current.ensures) (λ e. on (c.in_ok-size.ensures.ran e size_names after_size)
     (stops (c.in_err-current.ensures.ran e slot_names (rest c.in_ok-size.size.last))))
 
-pub write_slots-requires-clause-at_value : goal.write_slots-requires-clause-at_value
+pub write_slots-requires : goal.write_slots-requires
 unfolding width_of size_of
-write_slots-requires-clause-at_value c =
+write_slots-requires c =
     let size = c.in_ok-size.ensures in
-    (omega (arith, size.moved.to.0, c.in_ok-current.ensures.moved.to.0, c.requires.at_value), omega (arith, size.result_bound))
+    record { at_value = (omega (arith, size.moved.to.0, c.in_ok-current.ensures.moved.to.0, c.requires.at_value), omega (arith, size.result_bound)) }
 
 pub returns : goal.returns
 unfolding run sign_of width_of

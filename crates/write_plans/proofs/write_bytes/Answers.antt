@@ -4,4 +4,4 @@ use Rattle.write_plans.proofs.SlotLaws.{counted_done}
 use Rattle.write_plans.proofs.write_bytes.Goals as goal
 
 pub returns : goal.returns
-returns c = counted_done c.args.body.now c.args.at c.args.m c.requires.1 c.requires.2 c.put.ensures c.write_bits.ensures
+returns c = counted_done c.args.from.body.now c.args.from.at c.args.m c.requires.0 c.requires.1 c.put.ensures c.write_bits.ensures

@@ -5,6 +5,3 @@ use Rattle.write_plans.proofs.write_filler.Goals as goal
 
 pub returns-in-First : goal.returns-in-First
 returns-in-First c = rw c.in-First.is (none_appended _ _)
-
-pub returns-in-Second : goal.returns-in-Second
-returns-in-Second c = rw c.in-Second.is c.write_bytes.ensures

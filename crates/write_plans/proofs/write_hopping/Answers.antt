@@ -5,7 +5,7 @@ use Rattle.format.specs.Tables.{mode}
 use Rattle.runs.specs.Lines.{sign_of, width_of, size_of, run}
 use Rattle.format.proofs.Passed.{carried}
 use Rattle.write_runs.specs.Went.{inside}
-use Rattle.write_runs.proofs.WentLaws.{stops, on, go_on}
+use Rattle.write_runs.proofs.WentLaws.{stops, on}
 use Rattle.write_plans.proofs.SlotLaws.{then_ragged}
 use Rattle.write_plans.proofs.Names.{mode_names, time_names, after_mode}
 use Rattle.write_plans.proofs.write_hopping.Goals as goal
@@ -27,6 +27,11 @@ unfolding width_of size_of
 write_mode-requires-clause-at_value c =
     (omega (arith, c.in_ok-head.ensures.moved.to.0, c.in_ok-clocks.ensures.moved.to.0, c.requires.at_value.0), c.requires.at_value.1)
 
+pub write_mode-requires-clause-spare : goal.write_mode-requires-clause-spare
+unfolding sign_of width_of size_of
+write_mode-requires-clause-spare c =
+    omega (arith, c.in_ok-head.ensures.moved.to, c.in_ok-clocks.ensures.moved.to, c.args.from.placed.behind)
+
 pub returns : goal.returns
 unfolding run sign_of width_of size_of
 returns c =
@@ -34,6 +39,6 @@ returns c =
     let head = c.in_ok-head.ensures in
     let clocks = c.in_ok-clocks.ensures in
     λ ed. then_ragged
-    (go_on (head.ran (inside ed stop) mode_names after_mode).to (clocks.ran (inside ed stop) time_names (λ _. mode c.in_ok-head.head.last)).to)
+    (on (head.ran (inside ed stop) mode_names after_mode) (clocks.ran (inside ed stop) time_names (λ _. mode c.in_ok-head.head.last)))
     (omega (arith, head.moved.to, clocks.moved.to))
     (c.write_mode.ensures ed)

@@ -17,9 +17,9 @@ pub returns-in_err-head : goal.returns-in_err-head
 unfolding beamhopping run sign_of width_of
 returns-in_err-head c = rw (carried c.from_residual.ensures) (stops (c.in_err-head.ensures.ran _ plan_names rest))
 
-pub write_ended-requires-clause-at_value : goal.write_ended-requires-clause-at_value
+pub write_ended-requires : goal.write_ended-requires
 unfolding width_of size_of
-write_ended-requires-clause-at_value c = omega (arith, c.in_ok-head.ensures.moved.to.0, c.requires.at_value)
+write_ended-requires c = record { at_value = omega (arith, c.in_ok-head.ensures.moved.to.0, c.requires.at_value) }
 
 pub returns : goal.returns
 unfolding beamhopping run sign_of width_of

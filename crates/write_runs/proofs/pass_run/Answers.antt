@@ -67,4 +67,4 @@ pub returns : goal.returns
 returns c =
     let st = c.loop-mark.invariant in
     let z : c.loop-mark.mark-index ≡ length c.args.marks.now = omega arith in
-    record { ran = λ e nms k. pass_ends st z c.value_at-2.ensures e nms k; came = pass_placed st; result_bound = rw (c.value_at-2.ensures, ← z) st.last; moved = pass_moved st z }
+    record { ran = λ e nms k. pass_ends st z c.value_at-2.ensures e nms k; result_bound = rw (c.value_at-2.ensures, ← z) st.last; moved = pass_moved st z }

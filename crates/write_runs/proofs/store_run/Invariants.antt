@@ -10,6 +10,6 @@ use Rattle.write_runs.proofs.store_run.Given as goal
 
 abbrev pub invariant-loop-mark : goal.invariant-loop-mark
 invariant-loop-mark l =
-    ((nms : List Name) → Along (run nms 0 l.marks) (lines nms l.marks) l.body l.at l.place l.initial.out l.step.at l.step.place l.step.last l.mark-index l.out)
-    × (l.step.last < 2 ^ width_of (get_or l.marks (l.mark-index - 1) 0))
-    × Balance l.marks l.at l.place l.step.at l.step.place l.mark-index
+    ((nms : List Name) → Along (run nms 0 l.marks) (lines nms l.marks) l.body l.at l.place l.initial.out l.end.at l.end.place l.end.last l.mark-index l.out)
+    × (l.end.last < 2 ^ width_of (get_or l.marks (l.mark-index - 1) 0))
+    × Balance l.marks l.at l.place l.end.at l.end.place l.mark-index

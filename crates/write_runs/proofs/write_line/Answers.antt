@@ -61,7 +61,6 @@ returns c =
       ran = λ e nm k. record {
         to = line_done nm a.mark k c.requires.valid w o.1 (omega arith) v o.0 (rw (← x.ensures) c.put.ensures);
       };
-      came = record { short = p.short; within = omega arith; behind = omega (arith, p.behind, o.1, w, f.less) };
       result_bound = rw (v, ← w) (value_at_lt a.body.now a.at _);
       moved = record { to = (omega (arith, w), omega (arith, o.1)) };
     }

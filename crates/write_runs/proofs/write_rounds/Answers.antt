@@ -1,25 +1,25 @@
 -- `write_rounds` meets its contract: the run a turn.
 -- Assumes nothing.
-use mathlib.Core.List.{[]}
+use mathlib.Core.Path.{refl}
 use native.Mathlib.Omega.{arith}
 use Rattle.runs.specs.Lines.{run}
 use Rattle.format.proofs.Passed.{carried}
-use Rattle.write_runs.proofs.Runs.{rounds_next, rounds_end, rounds_all, begin, turn, stop, ended}
+use Rattle.write_runs.proofs.Runs.{rounds_next, rounds_end, rounds_all, begin, turn, halt, arrived}
 use Rattle.write_runs.proofs.write_rounds.Goals as goal
 
 pub loop-init : goal.loop-init
-loop-init c = λ nms. begin c.requires.placed (rounds_all nms c.args.marks.now c.args.count)
+loop-init c =
+    λ nms. record { same = refl; along = begin c.args.from.placed (rounds_all nms c.args.marks.now c.args.count) }
 
-pub write_run-requires : goal.write_run-requires
-write_run-requires c = record { placed = (c.loop.invariant []).placed; valid = c.requires.valid }
-
-pub returns-in_err-step-clause-ran : goal.returns-in_err-step-clause-ran
-returns-in_err-step-clause-ran c =
+pub returns-in_err-step : goal.returns-in_err-step
+returns-in_err-step c =
     let a = c.args in
     let l = c.loop in
-    rw (carried c.from_residual.ensures) (λ e nms s. stop (run nms 0 a.marks.now) (l.invariant nms)
-    (λ k. rounds_next nms a.marks.now a.count l.step.last l.counter k (omega arith))
-    (λ e k. c.in_err-step.ensures.ran e nms k) e (λ _. s) (λ _. s))
+    rw (carried c.from_residual.ensures) (record {
+      ran = λ e nms s. halt (run nms 0 a.marks.now) (l.invariant nms)
+          (λ k. rounds_next nms a.marks.now a.count l.step.last l.counter k (omega arith))
+          (λ e k. c.in_err-step.ensures.ran e nms k) e (λ _. s) (λ _. s);
+    })
 
 pub loop-preserved : goal.loop-preserved
 loop-preserved c =
@@ -32,7 +32,4 @@ pub returns : goal.returns
 returns c =
     let a = c.args in
     let l = c.loop in
-    record {
-      came = (l.invariant []).placed;
-      ran = λ e nms s. record { to = ended (l.invariant nms) e (λ _. s) _ (rounds_end nms a.marks.now a.count l.step.last l.counter (λ _. s) (omega arith)) };
-    }
+    record { ran = λ e nms s. arrived (l.invariant nms) e (λ _. s) (λ _. s) (rounds_end nms a.marks.now a.count l.step.last l.counter (λ _. s) (omega arith)) }

@@ -1,8 +1,11 @@
--- `write_run` meets its contract: with no buffer the fields are passed, else they are stored.
+-- `write_run` meets its contract: where the run ended is a step in the same body.
 -- Assumes nothing.
-use native.Mathlib.Omega.{arith}
-use Rattle.write_runs.proofs.Passes.{none_stored}
+use mathlib.Core.List.{[]}
+use Rattle.format.specs.Syntax.{end}
+use Rattle.format.specs.declared.Edition.TheVariants.{First}
+use Rattle.write_runs.specs.Went.{outside}
+use Rattle.write_runs.proofs.Runs.{placed_on}
 use Rattle.write_runs.proofs.write_run.Goals as goal
 
-pub returns-then-out-eq0-clause-ran : goal.returns-then-out-eq0-clause-ran
-returns-then-out-eq0-clause-ran c = λ e nms k. none_stored (omega arith) (c.pass_run.ensures.ran e nms k)
+pub invariant_of-result : goal.invariant_of-result
+invariant_of-result c = record { placed = placed_on c.args.from.placed (c.in_ok-run.ensures.ran (outside First) [] (λ _. end)).to }

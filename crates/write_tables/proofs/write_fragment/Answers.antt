@@ -38,9 +38,9 @@ returns-in_err-centre c =
     (on (c.in_ok-flag.ensures.ran e names.last (λ _. middle first))
     (starts (when_yes _ _ _ _ _ _ (eq-eqb _ _ c.if-cell-eq1.true)) (stops (c.in_err-centre.ensures.ran e names.centre lists)))))
 
-pub write_lists-requires-clause-count_bound : goal.write_lists-requires-clause-count_bound
+pub write_lists-requires : goal.write_lists-requires
 unfolding width_of
-write_lists-requires-clause-count_bound c = omega (arith, c.in_ok-centre.ensures.result_bound)
+write_lists-requires c = record { count_bound = omega (arith, c.in_ok-centre.ensures.result_bound) }
 
 pub returns-then-cell-eq1 : goal.returns-then-cell-eq1
 unfolding fragment run sign_of width_of
@@ -59,9 +59,9 @@ returns-in_err-none c =
     (on (c.in_ok-flag.ensures.ran e names.last (λ _. middle first))
     (starts (when_no _ _ _ _ _ _ (ne_eqb _ _ c.if-cell-eq1.false)) (stops (c.in_err-none.ensures.ran e names.no_centre lists)))))
 
-pub write_lists-requires-2-clause-count_bound : goal.write_lists-requires-2-clause-count_bound
+pub write_lists-requires-2 : goal.write_lists-requires-2
 unfolding width_of
-write_lists-requires-2-clause-count_bound c = omega (arith, c.in_ok-none.ensures.result_bound)
+write_lists-requires-2 c = record { count_bound = omega (arith, c.in_ok-none.ensures.result_bound) }
 
 pub returns : goal.returns
 unfolding fragment run sign_of width_of
