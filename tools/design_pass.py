@@ -20,8 +20,8 @@ PARAMETERS = {
     "5 ledger and place": r"ledger: &\[u8\], place: usize",
     "5 buffer and place": r"out: &mut \[u8\], (?:at|place): usize|place: usize, out: &mut \[u8\]",
     "5 text and its length": r"out: &mut Text",
-    "5 functions of six parameters or more": r"(?:.*?, ){5}",
 }
+SIX = "5 functions of six parameters or more"
 ENUMS = "1 enums with a refusal or a none"
 
 
@@ -41,14 +41,22 @@ def parameters(text):
         yield re.sub(r"\s+", " ", text[m.end() : end - 1])
 
 
+def number(those):
+    """How many parameters a list has: commas within a type's own parameters and a last one are none."""
+    while re.search(r"<[^<>]*>", those):
+        those = re.sub(r"<[^<>]*>", "", those)
+    return len([one for one in those.split(",") if one.strip()])
+
+
 def counts(root):
-    found = dict.fromkeys([ENUMS, *TEXT, *PARAMETERS], 0)
+    found = dict.fromkeys([ENUMS, SIX, *TEXT, *PARAMETERS], 0)
     for text in sources(root):
         for body in re.findall(r"\benum \w+(?:<[^>]*>)? \{(.*?)\n\}", text, re.S):
             found[ENUMS] += bool(re.search(r"Refus|^\s*None,", body, re.M))
         for name, pattern in TEXT.items():
             found[name] += len(re.findall(pattern, text))
         for those in parameters(text):
+            found[SIX] += number(those) > 5
             for name, pattern in PARAMETERS.items():
                 found[name] += bool(re.search(pattern, those))
     return found

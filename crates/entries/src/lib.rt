@@ -102,7 +102,7 @@ fn sole_entry(table_id: u8, s: &[u8], index: usize) -> Result<Walk, Refusal>
 }
 
 // The entries of a body: their number, the place of the one at an index, and the place where the reading ended; or the
-// body's refusal.
+// body's refusal. Its length is tested where each call begins, as each call's definition has it.
 pub fn walk_body(table_id: u8, s: &[u8], index: usize) -> Result<Walk, Refusal>
     ensures value { result ≡ seek s.now index walked Err (body_starts table_id s.now) }
     ensures sure { Sure s.now (head_end table_id s.now) result }

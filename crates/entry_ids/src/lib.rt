@@ -39,8 +39,8 @@ fn entry_id(table: ListTable, from: Cursor<'_>) -> u32
 }
 
 // Gathers the different ids of a list's entries from a place on, which starts a byte (`at_value`; see `Cursor`), in the
-// order in which they are met. A `while`, since where an entry ends shows only once it is read. The list is lent, since
-// handing it back would copy it.
+// order in which they are met. A `while`, since where an entry ends shows only once it is read; what it keeps is
+// another than in `seek_entries` of entries. The list is lent, since handing it back would copy it.
 fn list_ids(
     table: ListTable,
     from: Cursor<'_>,
@@ -63,7 +63,8 @@ fn list_ids(
     Ok(())
 }
 
-// Gathers the different ids of a body's entries. A body that is no list has none, and is refused as its reading is.
+// Gathers the different ids of a body's entries. A body that is no list has none, and is refused as its reading is. Its
+// length is tested where each call begins, as each call's definition has it.
 fn gather_ids(table_id: u8, s: &[u8], ids: &mut ArrayVec<u32, ENTRIES_MAX>) -> Result<(), Refusal>
     requires { ids.old.items ≡ [] }
     ensures { Gathered (ids_of table_id s.now) (gathered ids.new result) }

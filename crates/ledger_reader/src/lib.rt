@@ -42,7 +42,8 @@ fn read_entry<'a>(
     }
 }
 
-// The next entry, laid from the start on of the part of the buffer that starts where the last one ended.
+// The next entry, laid from the start on of the part of the buffer that starts where the last one ended. Around another
+// call so do read_ephemeris and the writer; one function for them would need one relation in place of three.
 fn read_next<'a>(
     from: Step<'a>,
     edition: Edition,

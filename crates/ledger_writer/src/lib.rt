@@ -117,7 +117,7 @@ fn write_content<'a>(
 }
 
 // How long the ledger of a body is in an edition: the content is gone through with no room, so that nothing is stored;
-// a raw body is its own content.
+// a raw body is its own content. The body's length is tested where each call begins, as its definition has it.
 pub fn ledger_size(edition: Edition, table_id: u8, body: &[u8]) -> Result<usize, Refusal>
     ensures { result ≡ size_answer edition table_id body.now }
 {
