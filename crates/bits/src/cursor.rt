@@ -18,7 +18,8 @@ pub struct Cursor<'a> {
 }
 
 impl<'a> Cursor<'a> {
-    // The first bit of a body, of which the length alone is asked, as of each function that takes a whole one.
+    // The first bit of a body, of which the length alone is asked, as of each function that takes a whole one: a cursor
+    // would hold a place that it does not use.
     pub fn start(body: &'a [u8]) -> Cursor<'a>
         requires { length body.now ≤ 4096 }
         ensures { (result.body.now ≡ body.now) × (result.at ≡ 0) }

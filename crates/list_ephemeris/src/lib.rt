@@ -99,6 +99,7 @@ fn show_usable<W: Write>(
     }
 }
 
+// The entries, by the index, which is what the call takes.
 fn show_ephemerides<W: Write>(
     out: &mut Listing<'_, W>,
     body: &[u8],

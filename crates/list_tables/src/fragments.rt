@@ -39,7 +39,8 @@ fn show_centre<W: Write>(out: &mut Listing<'_, W>, c: CellCentre) -> io::Result<
     out.field("reserved_zero_future_use_6", c.reserved_zero_future_use_6)
 }
 
-// The delivery systems' ids. An id is a value by itself, with no name behind its place in the list.
+// The delivery systems' ids. An id is a value by itself, with no name behind its place in the list. By the index, which
+// is what the call takes; so are the other lists.
 fn show_ids<W: Write>(out: &mut Listing<'_, W>, body: &[u8], part: Part) -> io::Result<()> {
     out.list(part)?;
     for i in 0..part.count {

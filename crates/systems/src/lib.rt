@@ -33,7 +33,7 @@ struct System {
 }
 
 // A count of 10 bits, and behind it so many systems: refused with a fault of the caller's where they pass the end,
-// and then by the first of their clocks that is refused.
+// and then by the first of their clocks that is refused. By the index, which is the place too.
 pub fn read_systems(from: Cursor<'_>, fault: Fault) -> Result<Found<Part>, Refusal>
     ensures { result ≡ systems_at from.entry.body.now fault from.entry.at }
 {

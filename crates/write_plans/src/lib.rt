@@ -78,7 +78,8 @@ fn write_bytes(from: Step, m: usize, out: &mut [u8]) -> usize
     from.place + 2 + m / 8
 }
 
-// Raw bytes, behind their count, which takes no bits of the body: so its two bytes are asked for (`spare`).
+// Raw bytes, behind their count, which takes no bits of the body: so its two bytes are asked for (`spare`). A plan's
+// end starts a byte, as its start does.
 fn write_raw<'a>(from: Step<'a>, stop: u16, out: &mut [u8]) -> Result<Step<'a>, Refusal>
     requires at_value { (from.at % 8 ≡ 0) × (stop % 8 ≡ 0) }
     requires spare { from.place ≤ from.at + 6 }
