@@ -27,10 +27,10 @@ NamedIn id None = IsList (layout id) → ⊥
 pub record Named (id : ℕ) (r : Option ListTable) : Type 0 where
   pub is : NamedIn id r
 
-abbrev pub entry_in : Layout → Syntax
-entry_in (sole s) = s
-entry_in (many h m s) = s
-entry_in opaque = end
+abbrev pub syntax_in : Layout → Syntax
+syntax_in (sole s) = s
+syntax_in (many h m s) = s
+syntax_in opaque = end
 
 abbrev pub least_in : Layout → ℕ
 least_in (sole s) = 0
@@ -44,7 +44,7 @@ head_in opaque = end
 
 -- an entry, the bits that must remain for it, and what stands before the first
 abbrev pub entry_syntax : ℕ → Syntax
-entry_syntax id = entry_in (layout id)
+entry_syntax id = syntax_in (layout id)
 
 abbrev pub least_bits : ℕ → ℕ
 least_bits id = least_in (layout id)

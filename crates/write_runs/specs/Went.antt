@@ -54,9 +54,13 @@ pub record Ran (body : List ℕ) (e : Around) (s : Syntax) (at place : ℕ) (out
 abbrev pub RanFrom : Step → Around → Syntax → List ℕ → (ℕ → Syntax) → List ℕ → Result Step Refusal → Type 0
 RanFrom x e s out k out' r = Ran x.body.now e s x.at x.place out k out' r
 
+-- from two places to two others, which are behind the whole run
+abbrev pub Behind : ℕ → ℕ → List ℕ → ℕ → ℕ → Type 0
+Behind at place cs at' place' = (at' ≡ at + widths_of cs) × (place' ≡ place + sizes_of cs)
+
 -- a step that is done went over the whole run
 abbrev pub MovedTo : ℕ → ℕ → List ℕ → Result Step Refusal → Type 0
-MovedTo at place cs (Ok x) = (x.at ≡ at + widths_of cs) × (x.place ≡ place + sizes_of cs)
+MovedTo at place cs (Ok x) = Behind at place cs x.at x.place
 MovedTo at place cs (Err f) = Unit {0}
 
 pub record Moved (at place : ℕ) (cs : List ℕ) (r : Result Step Refusal) : Type 0 where
