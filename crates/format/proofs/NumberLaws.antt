@@ -41,6 +41,7 @@ fault_number_positive fault.VersionUnknown = omega arith
 fault_number_positive fault.ValueMisfit = omega arith
 fault_number_positive fault.RestoredTooLong = omega arith
 fault_number_positive fault.PlanLengthMisfit = omega arith
+fault_number_positive fault.PlanInexact = omega arith
 fault_number_positive fault.ExtensionTooLarge = omega arith
 
 pub numbered : {A : Type 0} (p : Parse A) → Numbered p
