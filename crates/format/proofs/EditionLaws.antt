@@ -12,7 +12,7 @@ use Rattle.format.specs.Digits.{digits, Below}
 use Rattle.format.specs.Syntax.{Name, Syntax, Field, got}
 use Rattle.format.specs.declared.Edition.{Edition}
 use Rattle.format.specs.declared.Edition.TheVariants.{First, Second}
-use Rattle.format.specs.Tables.{times, obsolescent, new, delivery, position, fragment, association, usable, metadata, ephemeris, covariance, ephemerides, position3}
+use Rattle.format.specs.Tables.{times, obsolescent, new, delivery, position, fragment, association, hopping, usable, metadata, ephemeris, covariance, ephemerides, position3}
 use Rattle.format.specs.Ledger.{ledger}
 use Rattle.format.specs.Whole.{Layout, sole, many, opaque, layout, Table, ledgers, content_of, ledger_of}
 use Rattle.format.specs.Calls.{Wrote}
@@ -25,7 +25,7 @@ use Rattle.format.proofs.CallLaws.{wrote_accepted}
 
 -- ---- fields that are no plan's
 
-ledger_same : {l i : Bool} {s : Syntax} {ts : List Field} (ed : Edition) → NoPlan s → Good l i s ts → ledger ed ts ≡ ledger First ts
+pub ledger_same : {l i : Bool} {s : Syntax} {ts : List Field} (ed : Edition) → NoPlan s → Good l i s ts → ledger ed ts ≡ ledger First ts
 unfolding ledger
 ledger_same ed p g_end = refl
 ledger_same ed p (g_field g nm w k v _ _ r) = rw (ledger_same ed (p v) r)
@@ -68,6 +68,10 @@ planless_fragment = λ _ _ _. (λ _ _ _ _ _ _. planless_delivery, λ _. planless
 planless_association : NoPlan association
 unfolding association
 planless_association = omega arith
+
+-- the fields within a plan have none either
+pub planless_hopping : NoPlan hopping
+planless_hopping = λ _ m _ _ _ _ _ _. (λ _ _ _ _ _ _. tt, (λ _ _ _ _. tt, (λ _ _ _ _ _ _ _ _ _ _ _ _. tt, tt)))
 
 planless_covariance : (cov : ℕ) → NoPlan (covariance cov)
 planless_covariance cov = omega arith

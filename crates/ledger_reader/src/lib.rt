@@ -186,13 +186,13 @@ fn read_content<'a>(
 
 // What a ledger stands for: its edition, its table id and the length of the body.
 #[derive(Clone, Copy)]
-struct Measured {
-    edition: Edition,
-    output: Output,
+pub struct Measured {
+    pub edition: Edition,
+    pub output: Output,
 }
 
 // The measure of a ledger, or why it is refused: no buffer is needed for it.
-fn measure(ledger: &[u8]) -> Result<Measured, Refusal>
+pub fn measure(ledger: &[u8]) -> Result<Measured, Refusal>
     ensures { Measures ledger.now result }
 {
     if ledger.len() < 4 || get_be(ledger, 0, 2) != (ledger.len() - 2) as u64 {

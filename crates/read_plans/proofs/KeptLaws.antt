@@ -15,7 +15,7 @@ use Rattle.format.specs.Digits.{digits, value, Below, bits_of, splice}
 use Rattle.format.specs.Refusals.{refuse}
 use Rattle.format.specs.Syntax.{Name, unsigned, Syntax, end, field, plan, raw, before, Field, num, bytes, Parse, got, refused, and_then, push}
 use Rattle.format.specs.declared.Edition.TheVariants.{Second}
-use Rattle.format.specs.Tables.{hopping, beamhopping}
+use Rattle.format.specs.Tables.{hopping}
 use Rattle.format.specs.Body.{planned, laid, kept}
 use Rattle.format.specs.Ledger.{grant, leaves, read_filler, read_ledger}
 use Rattle.format.specs.declared.Refusal.{Refusal}
@@ -23,8 +23,8 @@ use Rattle.format.specs.ByName.{the}
 use Rattle.format.specs.declared.Fault.TheVariants.{PlanLengthMisfit}
 use Rattle.format.proofs.DigitLaws.{length_bits, value_lt, below_take, below_drop}
 use Rattle.format.proofs.ParseLaws.{push_got, grant_got}
-use Rattle.format.proofs.Good.{Good, Fine, laid_num, laid_bytes, laid_nil, kept_filler}
-use Rattle.format.proofs.FineTables.{fine_beamhopping}
+use Rattle.format.proofs.Good.{Good, laid_num, laid_bytes, laid_nil, kept_filler}
+use Rattle.format.proofs.FineTables.{fine_hopping}
 use Rattle.format.proofs.LedgerLaws.{found, bytes_got}
 use Rattle.format.proofs.PlanLaws.{behind_length, plan_field, behind_raw, filler_raw, hopping_left, mode_byte}
 use Rattle.bits.proofs.Splices.{splice_splice}
@@ -43,10 +43,6 @@ two_bytes l p b h =
 leaves_by_lem : {l : Bool} {us : List Field} → Good l true (before hopping) us → (b : Bool) (v f : ℕ) → leaves b v us f ≡ leaves_by b v (length (kept us)) f (the "time_plan_mode" us)
 unfolding leaves_by
 leaves_by_lem g b v f = rw (hopping_left g true f, hopping_left g false f)
-
-fine_hopping : Fine true 48 9 hopping
-unfolding beamhopping
-fine_hopping = ((fine_beamhopping.1 0).1 0).2
 
 -- a field that was read
 field_read : (b : Bool) (n : ℕ) (nm : Name) (k : Syntax) (bs : List ℕ) {ts : List Field} {rest : List ℕ} → read_ledger Second b n (field unsigned nm 12 (λ _. k)) bs ≡ got ts rest

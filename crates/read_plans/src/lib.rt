@@ -101,7 +101,7 @@ fn read_mode<'a>(from: Step<'a>, kind: u64, out: &mut [u8]) -> Result<Step<'a>, 
 }
 
 // What a plan's length counts.
-fn read_hopping<'a>(from: Step<'a>, out: &mut [u8]) -> Result<Step<'a>, Refusal>
+pub fn read_hopping<'a>(from: Step<'a>, out: &mut [u8]) -> Result<Step<'a>, Refusal>
     ensures laid { (way : Way) → LaidFrom way from.entry hopping out.old (λ _. end) out.new result }
     ensures spared { Spared from.entry.place from.entry.at result }
 {

@@ -23,7 +23,7 @@ use Rattle.format.specs.declared.Fault.TheVariants.{PlanOverrun}
 use Rattle.format.proofs.DigitLaws.{length_bits, length_digits, below_drop, bits_below}
 use Rattle.format.proofs.Good.{Fine, ledger_filler}
 use Rattle.format.proofs.BodyLaws.{sound}
-use Rattle.format.proofs.FineTables.{fine_beamhopping}
+use Rattle.format.proofs.FineTables.{fine_hopping}
 use Rattle.format.proofs.ReadLaws.{rest_at, place_at}
 use Rattle.format.specs.declared.Found.{Found}
 use Rattle.bits.specs.Read.{read_at}
@@ -47,11 +47,6 @@ length_appended ed v a = omega (arith, a.size, added_short ed (digits 256 2 v), 
 ledger_plan : (ed : Edition) (nm : Name) (v : ℕ) (ts : List Field) (fs : List ℕ) → ledger ed (planned nm v ts fs) ≡ added ed (digits 256 2 v) ++ (ledger ed ts ++ added ed (counted_bytes fs))
 unfolding ledger
 ledger_plan ed nm v ts fs = ap (λ (x : List ℕ). added ed (digits 256 2 v) ++ x) (ledger_filler ed ts fs)
-
--- the fields within a plan end at a byte
-fine_hopping : Fine true 48 9 hopping
-unfolding beamhopping
-fine_hopping = ((fine_beamhopping.1 0).1 0).2
 
 pub hopping_byte : {body out out' : List ℕ} {ed : Edition} {e at place a p : ℕ} → Went body (inside ed e) hopping at place out end a p out' → at ≤ 8 * length body → at % 8 ≡ 0 → e % 8 ≡ 0 → a % 8 ≡ 0
 unfolding read_body

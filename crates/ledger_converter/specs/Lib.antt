@@ -1,0 +1,3 @@
+pub mod Measure
+pub mod Plans
+pub mod Steps
