@@ -43,14 +43,14 @@ known_version v q = go (eqb v 1) (eqb v 2) refl refl q
     go false false x y z = absurd (true≢false (sym z))
 
 -- what the tests of a ledger's front found, and its content
-record Passed (l : List ℕ) (t : Table) (r : List ℕ) : Type 0 where
-  four : 4 ≤ length l
-  long : value 256 (take 2 l) ≡ length l - 2
+pub record Passed (l : List ℕ) (t : Table) (r : List ℕ) : Type 0 where
+  pub four : 4 ≤ length l
+  pub long : value 256 (take 2 l) ≡ length l - 2
   edition : version (edition_of l) ≡ version_of l
   content : content_as (edition_of l) (length l) (layout (id_of l)) (drop 4 l) ≡ got t r
   size : length (body_of (edition_of l) t) ≤ 4096
 
-passed : (l : List ℕ) {t : Table} {r : List ℕ} → ledger_read l ≡ got t r → Passed l t r
+pub passed : (l : List ℕ) {t : Table} {r : List ℕ} → ledger_read l ≡ got t r → Passed l t r
 unfolding ledger_read
 passed l e =
     let n : ℕ = length l in
@@ -80,7 +80,7 @@ accepted_before {id} {b} p = record { byte = p.byte; bytes = p.bytes; reads = te
 pub still_accepted : {id : ℕ} {b : List ℕ} {t : Table} → AcceptedBefore id b t → Still (body_read id b) t []
 still_accepted {id} {b} p = tested_still (tested_read (layout id) b (fine_layout id)) p.reads
 
-fine_then : (id : ℕ) → FineLayout (layout_before (layout id))
+pub fine_then : (id : ℕ) → FineLayout (layout_before (layout id))
 fine_then id = fine_before_layout (layout id) (fine_layout id)
 
 -- ---- an accepted body, and its plain and kept body; x: accepted in any sense

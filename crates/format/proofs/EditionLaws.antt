@@ -94,12 +94,12 @@ planless_position3 : NoPlan position3
 unfolding position3
 planless_position3 = λ _ _ meta start stop accel cov. let e = planless_ephemerides accel cov in (planless_metadata start stop (ephemerides accel cov) e, e)
 
-abbrev Planless : Layout → Type 0
+abbrev pub Planless : Layout → Type 0
 Planless (sole s) = NoPlan s
 Planless (many h m s) = NoPlan h × NoPlan s
 Planless opaque = Unit {0}
 
-planless_layout : (id : ℕ) → (id ≡ 3 → ⊥) → Planless (layout id)
+pub planless_layout : (id : ℕ) → (id ≡ 3 → ⊥) → Planless (layout id)
 planless_layout zero h = (tt, planless_position)
 planless_layout (suc zero) h = (tt, planless_fragment)
 planless_layout (suc (suc zero)) h = planless_association
@@ -107,7 +107,7 @@ planless_layout (suc (suc (suc zero))) h = absurd (h refl)
 planless_layout (suc (suc (suc (suc zero)))) h = (planless_header, planless_position3)
 planless_layout (suc (suc (suc (suc (suc n))))) h = tt
 
-content_same : {l : Layout} {t : Table} (ed : Edition) → Planless l → GoodTable l t → content_of ed t ≡ content_of First t
+pub content_same : {l : Layout} {t : Table} (ed : Edition) → Planless l → GoodTable l t → content_of ed t ≡ content_of First t
 unfolding content_of
 content_same ed p (good_one g) = ledger_same ed p g
 content_same ed p (good_list {s = s} {es = es} g gs) = ap₂ (λ (x y : List ℕ). x ++ (digits 256 2 (length es) ++ y)) (ledger_same ed p.0 g) (ledgers_same s ed es p.1 gs)

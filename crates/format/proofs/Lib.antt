@@ -13,6 +13,10 @@ pub mod NumberLaws
 pub mod Demand
 pub mod CallLaws
 pub mod EditionLaws
+pub mod LedgerFaults
+pub mod PlanlessLaws
+pub mod ConvertLaws
+pub mod ConvertCalls
 pub mod ReadLaws
 pub mod GroupLaws
 pub mod ListLaws

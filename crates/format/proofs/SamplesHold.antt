@@ -8,7 +8,8 @@ use Rattle.format.specs.Ledger.{ledger, read_ledger}
 use Rattle.format.specs.Whole.{entries_of, walk, read_as, body_read_as, laids, ledgers, body_of, content_of, ledger_of, counted, content_as, ledger_read}
 use Rattle.format.specs.ByName.{first_by}
 use Rattle.format.specs.Calls.{answer, left, filed, relaid, restored, write_answer, write_left, read_answer, read_left}
-use Rattle.format.specs.Samples.{AllHold, p1_to_p12, ledger_samples, edition_2_samples, extension_samples, call_samples}
+use Rattle.format.specs.Convert.{exact, all_exact, converted, convert_answer, convert_left}
+use Rattle.format.specs.Samples.{AllHold, p1_to_p12, ledger_samples, edition_2_samples, extension_samples, call_samples, convert_samples}
 
 pub samples_hold : AllHold p1_to_p12
 unfolding p1_to_p12 filed relaid body_read_as read_as walk read_body bits_of bytes_of digits value ledger_of content_of body_of laids ledgers ledger laid position fragment association beamhopping header position3 entries_of first_by twos
@@ -32,3 +33,8 @@ extension_samples_hold =
 pub call_samples_hold : AllHold call_samples
 unfolding call_samples write_answer write_left read_answer read_left answer left splice filed body_read_as read_as walk read_body ledger_of content_of laids ledgers ledger laid restored ledger_read content_as counted read_ledger body_of bits_of bytes_of digits value position association
 call_samples_hold = ((refl, refl), ((refl, refl), ((refl, refl), ((refl, refl), ((refl, refl), ((refl, refl), tt))))))
+
+pub convert_samples_hold : AllHold convert_samples
+unfolding convert_samples converted exact all_exact convert_answer convert_left answer left splice entries_of ledger_read content_as counted read_ledger ledger_of content_of laids ledgers ledger laid body_of bits_of bytes_of digits value position association beamhopping
+convert_samples_hold =
+    (refl, (refl, (refl, (refl, (refl, (refl, (refl, (refl, (refl, (refl, (refl, (refl, (refl, (refl, (refl, (refl, (refl, (refl, (refl, (refl, (refl, (refl, (refl, (refl, (refl, (refl, (refl, (refl, (refl, (refl, (refl, (refl, (refl, (refl, (refl, (refl, (refl, (refl, (refl, ((refl, refl), ((refl, refl), ((refl, refl), ((refl, refl), ((refl, refl), ((refl, refl), tt)))))))))))))))))))))))))))))))))))))))))))))

@@ -1,5 +1,5 @@
--- Document 01's samples P1 to P12, and samples of ledgers of both editions and of clocks' extensions: that each list
--- holds is shown in proofs/SamplesHold, by computation.
+-- Document 01's samples P1 to P12, and samples of ledgers of both editions, of clocks' extensions and of conversions:
+-- that each list holds is shown in proofs/SamplesHold, by computation.
 -- Assumes nothing.
 use Rattle.std.specs.Prelude.{ℕ, ◌+◌, ◌≡◌, List, [], ◌∷◌, ◌++◌, map, ℤ, pos, negsuc, length, replicate, Option, Some, None, Result, Err}
 use Rattle.format.specs.Digits.{digits}
@@ -10,21 +10,26 @@ use Rattle.format.specs.Whole.{entries_of, body_read, version, id_of}
 use Rattle.format.specs.ByName.{the_int}
 use Rattle.format.specs.Refusals.{fault_number, refuse}
 use Rattle.format.specs.Calls.{done, filed, relaid, restored, write_answer, write_left, read_answer, read_left}
+use Rattle.format.specs.Convert.{converted, convert_answer, convert_left}
 use Rattle.format.specs.declared.Refusal.{Refusal}
 use Rattle.format.specs.declared.Output.{Output}
-use Rattle.format.specs.declared.Fault.TheVariants.{BodyEmpty, BufferTooShort, ValueMisfit}
+use Rattle.format.specs.declared.Fault.TheVariants.{BodyEmpty, BufferTooShort, ValueMisfit, PlanInexact}
 
 -- A case and what it must give: a body under its id and its ledger in an edition; its plain or kept body; its refusal,
 -- the same of both; a body of fragments and their latitudes; a ledger, its id and its plain or kept body, or its
--- refusal; a call with a buffer, the answer, and the buffer afterwards.
+-- refusal; a ledger in the edition that is wanted, or the refusal; a call with a buffer, the answer, and the buffer
+-- afterwards.
 pub data Sample : Type 0 where
   files lays : Edition → ℕ → List ℕ → List ℕ → Sample
   refuses : Edition → ℕ → List ℕ → ℕ → ℕ → ℕ → Sample
   latitudes : List ℕ → List ℤ → Sample
   restores : List ℕ → ℕ → List ℕ → Sample
   denies : List ℕ → ℕ → ℕ → ℕ → Sample
+  converts : Edition → List ℕ → List ℕ → Sample
+  unconverted : Edition → List ℕ → ℕ → ℕ → ℕ → Sample
   writes : ℕ → List ℕ → List ℕ → Result Output Refusal → List ℕ → Sample
   reads : List ℕ → List ℕ → Result Output Refusal → List ℕ → Sample
+  moves : Edition → List ℕ → List ℕ → Result Output Refusal → List ℕ → Sample
 
 -- a refusal's number and values, as the papers have them; none of a result
 abbrev pub refusal_in : {A : Type 0} → Parse A → Option (ℕ × ℕ × ℕ)
@@ -39,8 +44,11 @@ Holds (latitudes b vs) =
     and_then (body_read 1 b) (λ t rest. got (map (the_int "centre_latitude") (entries_of t)) rest) ≡ got vs []
 Holds (restores l id b) = (id_of l ≡ id) × (restored l ≡ got b [])
 Holds (denies l x y z) = refusal_in (restored l) ≡ Some (x, y, z)
+Holds (converts ed l l') = converted ed l ≡ got l' []
+Holds (unconverted ed l x y z) = refusal_in (converted ed l) ≡ Some (x, y, z)
 Holds (writes id b out a out') = (write_answer First id b (length out) ≡ a) × (write_left First id b out ≡ out')
 Holds (reads l out a out') = (read_answer l (length out) ≡ a) × (read_left l out ≡ out')
+Holds (moves ed l out a out') = (convert_answer ed l (length out) ≡ a) × (convert_left ed l out ≡ out')
 
 abbrev pub AllHold : List Sample → Type 0
 AllHold [] = Unit {0}
@@ -265,4 +273,96 @@ call_samples =
     reads (satellite 0 1) (used 6) (Err (refuse BufferTooShort 7 6)) (used 6) ∷
     reads (satellite 0 1) (used 8) (done 0 7) (0 ∷ 0 ∷ 7 ∷ 0 ∷ 1 ∷ 0x20 ∷ 0x80 ∷ 0xee ∷ []) ∷
     reads (satellite 1 1) (used 6) (Err (refuse ValueMisfit 6 0)) (used 6) ∷
+    []
+
+-- ---- S-19: a ledger in the edition that is wanted
+
+-- a plan's id and first reserved field, behind which edition 2 has plan_length
+abbrev pub plan_head : List ℕ
+plan_head = 0 ∷ 0 ∷ 0 ∷ 7 ∷ 5 ∷ []
+
+-- what a plan of mode 0 has behind its length, 25 bytes of a body: reserved, mode, and four clocks, of which the first
+-- has the extension 256 + x
+abbrev pub plan_tail : ℕ → List ℕ
+plan_tail x =
+    9 ∷ 0 ∷
+    0 ∷ 0 ∷ 0 ∷ 1 ∷ 2 ∷ 3 ∷ 4 ∷ 5 ∷ 63 ∷ 1 ∷ x ∷
+    0 ∷ 0 ∷ 0 ∷ 0 ∷ 6 ∷ 7 ∷ 8 ∷ 9 ∷ 1 ∷ 0 ∷ 10 ∷
+    0 ∷ 0 ∷ 0 ∷ 1 ∷ 0 ∷ 0 ∷ 0 ∷ 11 ∷ 0 ∷ 1 ∷ 12 ∷
+    0 ∷ 0 ∷ 0 ∷ 0 ∷ 0 ∷ 0 ∷ 1 ∷ 13 ∷ 2 ∷ 0 ∷ 14 ∷
+    []
+
+-- the ledgers of one such plan: of edition 1, of 57 bytes; and of edition 2 with an exact length and no filler, of 61
+abbrev pub plan_first : ℕ → List ℕ
+plan_first x = 0 ∷ 55 ∷ 1 ∷ 3 ∷ 0 ∷ 1 ∷ plan_head ++ plan_tail x
+
+abbrev pub plan_second : ℕ → List ℕ
+plan_second x = 0 ∷ 59 ∷ 2 ∷ 3 ∷ 0 ∷ 1 ∷ plan_head ++ (0 ∷ 25 ∷ plan_tail x) ++ (0 ∷ 0 ∷ [])
+
+-- the fields of mode 1 in a ledger, of three slots
+abbrev pub three_slots : List ℕ
+three_slots = 0 ∷ 0 ∷ 3 ∷ 0 ∷ 0 ∷ 2 ∷ 0xe0 ∷ []
+
+-- a ledger of one satellite, of a version
+abbrev pub satellite_of : ℕ → List ℕ
+satellite_of v = 0 ∷ 14 ∷ v ∷ 0 ∷ 0 ∷ 1 ∷ 0 ∷ 0 ∷ 0 ∷ 7 ∷ 0 ∷ 0 ∷ 1 ∷ 0x20 ∷ 1 ∷ 0 ∷ []
+
+unfoldable pub convert_samples : List Sample
+convert_samples =
+    -- no plans, one plan
+    converts Second (0 ∷ 4 ∷ 1 ∷ 3 ∷ 0 ∷ 0 ∷ []) (0 ∷ 4 ∷ 2 ∷ 3 ∷ 0 ∷ 0 ∷ []) ∷
+    converts First (0 ∷ 4 ∷ 2 ∷ 3 ∷ 0 ∷ 0 ∷ []) (0 ∷ 4 ∷ 1 ∷ 3 ∷ 0 ∷ 0 ∷ []) ∷
+    converts Second (plan_first 43) (plan_second 43) ∷
+    converts First (plan_second 43) (plan_first 43) ∷
+    -- three slots, 18 bytes of a body; two raw bytes, 15
+    converts Second (plan_ledger 1 three_slots) (alone (plan2 18 1 three_slots [])) ∷
+    converts First (alone (plan2 18 1 three_slots [])) (plan_ledger 1 three_slots) ∷
+    converts Second (plan_ledger 3 (0 ∷ 2 ∷ 0xab ∷ 0xcd ∷ [])) (alone (plan2 15 3 (0 ∷ 2 ∷ 0xab ∷ 0xcd ∷ []) [])) ∷
+    converts First (alone (plan2 15 3 (0 ∷ 2 ∷ 0xab ∷ 0xcd ∷ []) [])) (plan_ledger 3 (0 ∷ 2 ∷ 0xab ∷ 0xcd ∷ [])) ∷
+    -- filler, behind a plan that is exact and in front of one that is not; in the first of two; of a plan that ends
+    -- past the data; behind slots
+    unconverted First (pair (dwelt 25 []) (dwelt 26 (0xab ∷ []))) 29 1 0 ∷
+    unconverted First (framed Second 3 (0 ∷ 3 ∷ dwelt 25 [] ++ dwelt 26 (0xab ∷ []) ++ dwelt 27 [])) 29 1 0 ∷
+    unconverted First (pair (dwelt 26 (0xab ∷ [])) (dwelt 25 [])) 29 0 0 ∷
+    unconverted First (alone (dwelt 4095 (0xab ∷ []))) 29 0 0 ∷
+    unconverted First (alone (plan2 19 1 three_slots (0xab ∷ []))) 29 0 0 ∷
+    -- a length that is not exact, without filler: the last plan ends past the data, a raw one too
+    unconverted First (alone (dwelt 26 [])) 29 0 0 ∷
+    unconverted First (pair (dwelt 25 []) (dwelt 26 [])) 29 1 0 ∷
+    unconverted First (alone (plan2 16 3 (0 ∷ 0 ∷ []) [])) 29 0 0 ∷
+    unconverted First (alone (plan2 16 3 (0 ∷ 0 ∷ []) (0xab ∷ 0xcd ∷ []))) 29 0 0 ∷
+    -- of other ids the version byte alone changes
+    converts Second (satellite_of 1) (satellite_of 2) ∷
+    converts First (satellite_of 2) (satellite_of 1) ∷
+    converts Second (0 ∷ 4 ∷ 1 ∷ 200 ∷ 0xab ∷ 0xcd ∷ []) (0 ∷ 4 ∷ 2 ∷ 200 ∷ 0xab ∷ 0xcd ∷ []) ∷
+    -- copied: the edition is there already, with filler too, and with a plan that ends past the data
+    converts First (plan_first 43) (plan_first 43) ∷
+    converts Second (plan_second 43) (plan_second 43) ∷
+    converts Second (alone (dwelt 27 (0xab ∷ 0xcd ∷ []))) (alone (dwelt 27 (0xab ∷ 0xcd ∷ []))) ∷
+    converts Second (alone (dwelt 4095 [])) (alone (dwelt 4095 [])) ∷
+    -- an extension of 300
+    converts Second (plan_first 44) (plan_second 44) ∷
+    converts First (plan_second 44) (plan_first 44) ∷
+    converts Second (associated_ledger First 44) (associated_ledger Second 44) ∷
+    converts First (associated_ledger Second 44) (associated_ledger First 44) ∷
+    -- the ledger's own faults come first: from the other edition, and where the wanted one is there already
+    unconverted First (0 ∷ 4 ∷ 3 ∷ 3 ∷ 0 ∷ 0 ∷ []) 24 2 0 ∷
+    unconverted Second (0 ∷ 4 ∷ 3 ∷ 3 ∷ 0 ∷ 0 ∷ []) 24 2 0 ∷
+    unconverted Second (0 ∷ 5 ∷ 1 ∷ 3 ∷ 0 ∷ 0 ∷ []) 23 0 0 ∷
+    unconverted First (0 ∷ 5 ∷ 1 ∷ 3 ∷ 0 ∷ 0 ∷ []) 23 0 0 ∷
+    unconverted Second (satellite 1 1) 25 6 0 ∷
+    unconverted First (satellite 1 1) 25 6 0 ∷
+    unconverted Second (pair (dwelt 26 []) (dwelt 25 [])) 28 61 0 ∷
+    unconverted Second (framed Second 5 (replicate 4097 0)) 26 4097 4096 ∷
+    -- and before 29: behind a plan that is not exact, of a later one, and of the size
+    unconverted First (pair (dwelt 26 (0xab ∷ [])) (dwelt 25 (0xab ∷ []))) 28 117 0 ∷
+    unconverted First (pair (dwelt 26 (0xab ∷ [])) []) 23 62 0 ∷
+    unconverted First (alone (dwelt 4091 (replicate 4066 0))) 26 4097 4096 ∷
+    -- calls: 22 names the length of the result, and comes behind 29
+    moves Second (plan_first 43) (used 60) (Err (refuse BufferTooShort 61 60)) (used 60) ∷
+    moves Second (plan_first 43) (used 62) (done 3 61) (plan_second 43 ++ (0xee ∷ [])) ∷
+    moves First (plan_second 43) (used 56) (Err (refuse BufferTooShort 57 56)) (used 56) ∷
+    moves First (plan_second 43) (used 57) (done 3 57) (plan_first 43) ∷
+    moves First (alone (dwelt 26 [])) (used 1) (Err (refuse PlanInexact 0 0)) (used 1) ∷
+    moves Second (satellite 1 1) (used 1) (Err (refuse ValueMisfit 6 0)) (used 1) ∷
     []
