@@ -19,7 +19,7 @@ pub append_part : (out xs part : List ℕ) (at start : ℕ) → start ≤ length
     → Appended xs at out (put_mid start (length out - start) out part) (at + length xs)
 append_part out xs part at start h e q =
     let mid : List ℕ = mid_of start (length out - start) out in
-    let n : length mid ≡ length out - start = mid_len start (length out) out h in
+    let n : length mid ≡ length out - start = mid_len start (length out) out (omega arith) in
     let k : length part ≡ length mid = ap length q ∙ stored_length mid 0 xs in
     record {
       size = refl;

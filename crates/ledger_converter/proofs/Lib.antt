@@ -1,1 +1,3 @@
 mod Appends
+mod PlanParts
+mod PlanFacts

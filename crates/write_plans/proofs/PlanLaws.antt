@@ -15,13 +15,13 @@ use Rattle.format.specs.Refusals.{refuse}
 use Rattle.format.specs.Syntax.{Name, Syntax, end, plan, Field, added, got}
 use Rattle.format.specs.declared.Edition.{Edition}
 use Rattle.format.specs.declared.Edition.TheVariants.{First, Second}
-use Rattle.format.specs.Tables.{hopping, beamhopping}
+use Rattle.format.specs.Tables.{hopping}
 use Rattle.format.specs.Body.{planned, close, read_body}
 use Rattle.format.specs.Ledger.{counted_bytes, ledger}
 use Rattle.format.specs.declared.Refusal.{Refusal}
 use Rattle.format.specs.declared.Fault.TheVariants.{PlanOverrun}
 use Rattle.format.proofs.DigitLaws.{length_bits, length_digits, below_drop, bits_below}
-use Rattle.format.proofs.Good.{Fine, ledger_filler}
+use Rattle.format.proofs.Good.{ledger_filler}
 use Rattle.format.proofs.BodyLaws.{sound}
 use Rattle.format.proofs.FineTables.{fine_hopping}
 use Rattle.format.proofs.ReadLaws.{rest_at, place_at}
