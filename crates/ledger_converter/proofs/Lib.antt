@@ -1,3 +1,4 @@
 mod Appends
 mod PlanParts
 mod PlanFacts
+mod Walking
