@@ -2,3 +2,5 @@ mod Appends
 mod PlanParts
 mod PlanFacts
 mod Walking
+mod Contents
+mod Conversions

@@ -1,9 +1,9 @@
 -- What the code that finds a plan's parts knows of them, by the places that it came to.
 -- Assumes nothing.
 use Prim.Native.Nat.{ℕ, ◌+◌, ◌-◌, ◌*◌, ◌/◌, ◌≤◌}
-use mathlib.Core.Path.{◌≡◌, refl, sym, ap, ap₂, ◌∙◌, subst}
+use mathlib.Core.Path.{◌≡◌, refl, sym, ap, ap₂, ◌∙◌}
 use mathlib.Core.Bool.{Bool, true, false, ◌&&◌}
-use mathlib.Core.List.{List, [], ◌∷◌, ◌++◌}
+use mathlib.Core.List.{List, [], ◌++◌}
 use native.Mathlib.Omega.{arith}
 use lib.Dec.{eqb}
 use lib.ListN.{length, take, drop, length-drop, length-take}
@@ -25,7 +25,7 @@ use Rattle.format.proofs.FineTables.{fine_hopping}
 use Rattle.format.proofs.LedgerLaws.{found}
 use Rattle.write_runs.proofs.WentLaws.{pushes_got}
 use Rattle.read_runs.specs.declared.step.Step.{Step}
-use Rattle.read_runs.specs.Came.{Way, way_of, some_way, Came, Laid, LaidFrom}
+use Rattle.read_runs.specs.Came.{Way, way_of, some_way, Laid}
 use Rattle.ledger_converter.specs.declared.Fields.{Fields}
 use Rattle.ledger_converter.specs.declared.Plan.{Plan}
 use Rattle.ledger_converter.specs.Plans.{bytes_in, has_all, FieldsAt, PlanThere, PlanAt}
@@ -104,9 +104,11 @@ module _ {l : List ℕ} {place : ℕ} (b : Below 256 l) where
 
   -- a plan whose fields were refused is not read
   pub first_no : {f : Refusal} {r : Result Plan Refusal} → r ≡ Err f → FieldsAt l (place + 5) (Err f) → PlanAt First l place r
-  first_no q a = rw q (record { to = λ last ts rest e. let h = headed First last (length l) (drop place l) (below_drop 256 place l b) e in
-      let o = first_read last (length l) (drop 5 (drop place l)) h.reads in
-      a.of First last o.us rest (ap (read_ledger First last (length l) hopping) (sym (drop-drop 5 place l)) ∙ o.reads) })
+  first_no q a = rw q (record {
+    to = λ last ts rest e. let h = headed First last (length l) (drop place l) (below_drop 256 place l b) e in
+        let o = first_read last (length l) (drop 5 (drop place l)) h.reads in
+        a.of First last o.us rest (ap (read_ledger First last (length l) hopping) (sym (drop-drop 5 place l)) ∙ o.reads);
+  })
 
   module _ {p : Plan} (a : FieldsAt l (place + 5) (Ok p.fields)) where
     pub first_yes : p.head.now ≡ take (place + 5 - place) (drop place l) → p.length ≡ p.fields.exact → p.filler.now ≡ [] → p.next ≡ p.fields.end → PlanAt First l place (Ok p)

@@ -2,22 +2,22 @@
 -- Assumes nothing.
 use Prim.Native.Nat.{ℕ, suc, ◌+◌, ◌-◌, ◌*◌, ◌≤◌, ◌<◌}
 use mathlib.Core.Path.{◌≡◌, refl, sym, ap, ◌∙◌}
-use mathlib.Core.Bool.{Bool, true, false, cond}
+use mathlib.Core.Bool.{true, false}
 use mathlib.Core.List.{List, [], ◌∷◌, ◌++◌, append_assoc, append-nil}
 use native.Mathlib.Nat.{sub-zero}
 use native.Mathlib.Omega.{arith}
 use lib.Dec.{eqb}
 use lib.ListN.{length, take, drop, length-append}
-use Rattle.std.specs.Prelude.{Result, Ok, Err}
+use Rattle.std.specs.Prelude.{Ok, Err}
 use Rattle.format.specs.Digits.{digits, value}
 use Rattle.format.specs.Refusals.{refuse}
-use Rattle.format.specs.Syntax.{Field, Parse, got, refused, and_then, push}
+use Rattle.format.specs.Syntax.{Field, Parse, got, refused, push}
 use Rattle.format.specs.declared.Edition.{Edition}
 use Rattle.format.specs.declared.Edition.TheVariants.{First, Second}
 use Rattle.format.specs.declared.Refusal.{Refusal}
 use Rattle.format.specs.declared.Fault.TheVariants.{PlanInexact}
 use Rattle.format.specs.Tables.{beamhopping}
-use Rattle.format.specs.Ledger.{ledger, read_ledger}
+use Rattle.format.specs.Ledger.{read_ledger}
 use Rattle.format.specs.Whole.{ledgers, counted}
 use Rattle.format.specs.Convert.{exact, all_exact, lossless}
 use Rattle.format.proofs.DigitLaws.{length_digits}

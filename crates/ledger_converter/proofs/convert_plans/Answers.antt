@@ -21,7 +21,7 @@ returns-then-not-has_all c =
     stop c.loop-i.invariant c.loop-i-test.true c.in_ok-plan.ensures c.get_be-count.ensures (sym c.has_all.ensures ∙ c.if-not-has_all.true)
 
 pub append_plan-at-requires-clause-at_bound : goal.append_plan-at-requires-clause-at_bound
-append_plan-at-requires-clause-at_bound c = 
+append_plan-at-requires-clause-at_bound c =
     small_place c.loop-i.invariant c.requires.short c.loop-i-test.true
     (rw c.get_be-count.ensures (two_bytes c.args.ledger.now 4 (below_of 256 c.args.ledger.now (λ i. omega (arith, c.type_inv.ledger i))) c.requires.count))
 
