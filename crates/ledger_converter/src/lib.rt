@@ -54,7 +54,8 @@ fn append(bytes: &[u8], out: &mut [u8], at: usize) -> usize
 // Stores a number in two bytes at a place where there is room for them; the place behind them.
 fn append_pair(v: u64, out: &mut [u8], at: usize) -> usize
     requires { at ≤ 1000000 }
-    ensures { Appended (digits 256 2 v) at out.old out.new result }
+    ensures appended { Appended (digits 256 2 v) at out.old out.new result }
+    ensures two { result ≡ at + 2 }
 {
     let behind = at + 2;
     if behind <= out.len() {

@@ -1,26 +1,15 @@
 -- `append_plan` lays the parts of a plan one behind the other.
 -- Assumes nothing.
 use native.Mathlib.Omega.{arith}
-use lib.ListN.{length}
-use Rattle.format.proofs.DigitLaws.{length_digits}
 use Rattle.ledger_converter.proofs.Appends.{also}
 use Rattle.ledger_converter.proofs.append_plan.Goals as goal
 
 pub append-end-requires : goal.append-end-requires
-append-end-requires c =
-    omega (arith, c.requires.at_bound, c.requires.few, c.append-behind.ensures.size, c.append_pair-start.ensures.size, length_digits 256 2 c.args.plan.length)
+append-end-requires c = omega (arith, c.requires.at_bound, c.requires.few, c.append-behind.ensures.size, c.append_pair-start.ensures.two)
 
 pub append_pair-filler-requires : goal.append_pair-filler-requires
 append_pair-filler-requires c =
-    omega (
-      arith,
-      c.requires.at_bound,
-      c.requires.few,
-      c.append-behind.ensures.size,
-      c.append_pair-start.ensures.size,
-      length_digits 256 2 c.args.plan.length,
-      c.append-end.ensures.size,
-    )
+    omega (arith, c.requires.at_bound, c.requires.few, c.append-behind.ensures.size, c.append_pair-start.ensures.two, c.append-end.ensures.size)
 
 pub append-requires-in-Second : goal.append-requires-in-Second
 append-requires-in-Second c =
@@ -29,11 +18,9 @@ append-requires-in-Second c =
       c.requires.at_bound,
       c.requires.few,
       c.append-behind.ensures.size,
-      c.append_pair-start.ensures.size,
-      length_digits 256 2 c.args.plan.length,
+      c.append_pair-start.ensures.two,
       c.append-end.ensures.size,
-      c.append_pair-filler.ensures.size,
-      length_digits 256 2 (length c.args.plan.filler.now),
+      c.append_pair-filler.ensures.two,
     )
 
 pub returns-in-First : goal.returns-in-First
@@ -43,4 +30,4 @@ pub returns-in-Second : goal.returns-in-Second
 returns-in-Second c =
     rw c.in-Second.is
     (also c.append-behind.ensures
-    (also c.append_pair-start.ensures (also c.append-end.ensures (also c.append_pair-filler.ensures c.append-in-Second.ensures))))
+    (also c.append_pair-start.ensures.appended (also c.append-end.ensures (also c.append_pair-filler.ensures.appended c.append-in-Second.ensures))))
