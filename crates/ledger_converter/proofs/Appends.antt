@@ -30,7 +30,8 @@ append_part out xs part at start h e q =
     }
 
 -- a number's two bytes, where there is room for them, and where there is not
-pub pair_fits : (v at : ℕ) (out out' : List ℕ) → at + 2 ≤ length out → out' ≡ splice out at (digits 256 2 v) → Appended (digits 256 2 v) at out out' (at + 2)
+pub pair_fits : (v at : ℕ) (out out' : List ℕ) → at + 2 ≤ length out → out' ≡ splice out at (digits 256 2 v)
+    → Appended (digits 256 2 v) at out out' (at + 2)
 pair_fits v at out out' h q =
     let n : length (digits 256 2 v) ≡ 2 = length_digits 256 2 v in
     record {
@@ -49,7 +50,8 @@ pub nothing_yet : {out : List ℕ} {at : ℕ} → Appended [] at out out at
 nothing_yet {out} {at} = record { size = omega arith; bytes = λ _. sym (splice_nil out at); long = refl }
 
 -- two pieces, one behind the other
-pub also : {xs ys out out₁ out₂ : List ℕ} {at m n : ℕ} → Appended xs at out out₁ m → Appended ys m out₁ out₂ n → Appended (xs ++ ys) at out out₂ n
+pub also : {xs ys out out₁ out₂ : List ℕ} {at m n : ℕ} → Appended xs at out out₁ m → Appended ys m out₁ out₂ n
+    → Appended (xs ++ ys) at out out₂ n
 also {xs} {ys} {out} {out₁} {out₂} {at} {m} {n} x y =
     let k : length (xs ++ ys) ≡ length xs + length ys = length-append xs ys in
     let zx = x.size in
@@ -57,7 +59,8 @@ also {xs} {ys} {out} {out₁} {out₂} {at} {m} {n} x y =
     let l = x.long in
     record {
       size = omega arith;
-      bytes = λ r. y.bytes (omega arith) ∙ ap (λ (o : List ℕ). splice o m ys) (x.bytes (omega arith)) ∙ splice_splice out at xs ys m x.size (omega arith);
+      bytes = λ r. y.bytes (omega arith) ∙ ap (λ (o : List ℕ). splice o m ys) (x.bytes (omega arith))
+          ∙ splice_splice out at xs ys m x.size (omega arith);
       long = y.long ∙ x.long;
     }
 

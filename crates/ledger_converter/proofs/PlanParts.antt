@@ -33,27 +33,33 @@ pub record Inside (l : List ℕ) (start stop bits : ℕ) (us : List Field) : Typ
   pub size : length (plain us) ≡ bits
   pub good : (last : Bool) → Good.Good last true (before hopping) us
 
-pub inside : {us : List Field} (l : List ℕ) (ed : Edition) (last : Bool) (start stop bits : ℕ) → Below 256 l → start ≤ stop → stop ≤ length l
-    → read_ledger ed last (length l) hopping (drop start l) ≡ got us (drop stop l) → bits ≡ length (laid ed us) → Inside l start stop bits us
+pub inside : {us : List Field} (l : List ℕ) (ed : Edition) (last : Bool) (start stop bits : ℕ) → Below 256 l
+    → start ≤ stop → stop ≤ length l
+    → read_ledger ed last (length l) hopping (drop start l) ≡ got us (drop stop l) → bits ≡ length (laid ed us)
+    → Inside l start stop bits us
 inside {us} l ed last start stop bits b h m e n =
     let r = found (length l) ed last true 48 9 hopping (drop start l) fine_hopping (below_drop 256 start l b) e in
     let p = Good.planless_before hopping planless_hopping in
-    let s : (to : Edition) → ledger to us ≡ ledger ed us = λ to. ledger_same to p r.good ∙ sym (ledger_same ed p r.good) in
+    let s : (to : Edition) → ledger to us ≡ ledger ed us = λ to. ledger_same to p r.good
+    ∙ sym (ledger_same ed p r.good) in
     let k : length (ledger ed us) ≡ stop - start =
     omega (arith, ap length r.back, length-append (ledger ed us) (drop stop l), length-drop stop l, length-drop start l) in
     record {
-      bytes = λ to. s to ∙ sym (take_at (ledger ed us) (drop stop l) (stop - start) k) ∙ ap (take (stop - start)) r.back;
+      bytes = λ to. s to ∙ sym (take_at (ledger ed us) (drop stop l) (stop - start) k)
+          ∙ ap (take (stop - start)) r.back;
       size = sizes ed r.good n;
       good = λ t. Good.planless t p r.good;
     }
   where
-    sizes : (to : Edition) → Good.Good last true (before hopping) us → bits ≡ length (laid to us) → length (plain us) ≡ bits
+    sizes : (to : Edition) → Good.Good last true (before hopping) us → bits ≡ length (laid to us)
+        → length (plain us) ≡ bits
     sizes First g q = sym q
     sizes Second g q = ap length (flat_kept tt g) ∙ sym q
 
 -- ---- which lengths are exact
 
-exact_flat : {l i : Bool} {s : Syntax} {ts : List Field} → T i → Good.Good l i s ts → (us : List Field) → exact (ts ++ us) ≡ exact us
+exact_flat : {l i : Bool} {s : Syntax} {ts : List Field} → T i → Good.Good l i s ts → (us : List Field)
+    → exact (ts ++ us) ≡ exact us
 unfolding exact
 exact_flat t Good.g_end us = refl
 exact_flat t (Good.g_field g nm w k v _ _ r) us = exact_flat t r us
@@ -70,7 +76,8 @@ pub exact_planned : {l : Bool} {s : Syntax} {us : List Field} (nm : Name) (v : �
     → exact (planned nm v us fs) ≡ (eqb v (length (plain us) / 8) && eqb (length fs) 0)
 unfolding exact laid
 exact_planned {us = us} nm v fs g =
-    let a : plain (us ++ (filler fs ∷ [])) ≡ plain us = flat_plain tt g (filler fs ∷ []) ∙ append-nil (kept us) ∙ sym (flat_kept tt g) in
+    let a : plain (us ++ (filler fs ∷ [])) ≡ plain us = flat_plain tt g (filler fs ∷ []) ∙ append-nil (kept us)
+    ∙ sym (flat_kept tt g) in
     let b : exact (us ++ (filler fs ∷ [])) ≡ (eqb (length fs) 0 && true) = exact_flat tt g (filler fs ∷ []) in
     rw (a, b, and-true (eqb (length fs) 0)) refl
   where
@@ -107,12 +114,14 @@ headed {ts} {rest} ed last n bs b e =
     let ps : List Field = o₁.0 in
     let is : ts ≡ t ∷ (r ∷ ps) = o.2 ∙ ap (λ (us : List Field). t ∷ us) o₁.2 in
     let d : digits 256 4 v ≡ take 4 bs = ap (digits 256 4) (eqb-true v x p.1) ∙ digits_take 256 4 bs b p.0 in
-    let d₁ : digits 256 1 v₁ ≡ take 1 bs₁ = ap (digits 256 1) (eqb-true v₁ x₁ p₁.1) ∙ digits_take 256 1 bs₁ (below_drop 256 4 bs b) p₁.0 in
+    let d₁ : digits 256 1 v₁ ≡ take 1 bs₁ = ap (digits 256 1) (eqb-true v₁ x₁ p₁.1)
+    ∙ digits_take 256 1 bs₁ (below_drop 256 4 bs b) p₁.0 in
     let z : take 4 bs ++ take 1 bs₁ ≡ take 5 bs = sym (take-add 4 1 bs) in
     record {
       ps = ps;
       five = omega (arith, p.0, p₁.0, length-drop 4 bs);
-      bytes = λ to. ap (ledger to) is ∙ ap₂ (λ (a c : List ℕ). a ++ (c ++ ledger to ps)) d d₁ ∙ sym (append_assoc (take 4 bs) (take 1 bs₁) (ledger to ps)) ∙ ap (λ (a : List ℕ). a ++ ledger to ps) z;
+      bytes = λ to. ap (ledger to) is ∙ ap₂ (λ (a c : List ℕ). a ++ (c ++ ledger to ps)) d d₁
+          ∙ sym (append_assoc (take 4 bs) (take 1 bs₁) (ledger to ps)) ∙ ap (λ (a : List ℕ). a ++ ledger to ps) z;
       same = ap exact is;
       reads = ap (λ (y : List ℕ). read_ledger ed last n (plan "plan_length" hopping) y) (sym (drop-drop 1 4 bs)) ∙ o₁.1;
     }
@@ -124,10 +133,12 @@ pub record PlanOfFirst (last : Bool) (n : ℕ) (bs : List ℕ) (ps : List Field)
   pub reads : read_ledger First last n hopping bs ≡ got us rest
   pub is : ps ≡ planned "plan_length" (length (plain us) / 8) us []
 
-pub first_read : {ps : List Field} {rest : List ℕ} (last : Bool) (n : ℕ) (bs : List ℕ) → read_ledger First last n (plan "plan_length" hopping) bs ≡ got ps rest → PlanOfFirst last n bs ps rest
+pub first_read : {ps : List Field} {rest : List ℕ} (last : Bool) (n : ℕ) (bs : List ℕ)
+    → read_ledger First last n (plan "plan_length" hopping) bs ≡ got ps rest → PlanOfFirst last n bs ps rest
 unfolding read_ledger
 first_read {ps} {rest} last n bs e =
-    let o = then_got (read_ledger First last n hopping bs) (λ us r. got (planned "plan_length" (length (plain us) / 8) us []) r) e in
+    let o = then_got (read_ledger First last n hopping bs)
+    (λ us r. got (planned "plan_length" (length (plain us) / 8) us []) r) e in
     let q : got (planned "plan_length" (length (plain o.0) / 8) o.0 []) o.1 ≡ got ps rest = o.3 in
     let z : o.1 ≡ rest = cc in
     let is : planned "plan_length" (length (plain o.0) / 8) o.0 [] ≡ ps = cc in
@@ -144,12 +155,14 @@ pub record PlanOfSecond (last : Bool) (n : ℕ) (bs : List ℕ) (ps : List Field
   pub is : ps ≡ planned "plan_length" (value 256 (take 2 bs)) us fs
   pub count : 2 ≤ length behind
   pub there : value 256 (take 2 behind) ≤ length (drop 2 behind)
-  pub counted : counted_bytes fs ≡ digits 256 2 (value 256 (take 2 behind)) ++ take (value 256 (take 2 behind)) (drop 2 behind)
+  pub counted : counted_bytes fs ≡ digits 256 2 (value 256 (take 2 behind))
+      ++ take (value 256 (take 2 behind)) (drop 2 behind)
   pub size : length fs ≡ 8 * value 256 (take 2 behind)
   pub after : rest ≡ drop (value 256 (take 2 behind)) (drop 2 behind)
 
 filler_of : {ps : List Field} {rest : List ℕ} (last : Bool) (n v : ℕ) (bs : List ℕ) (us : List Field) (behind : List ℕ) → Below 256 behind → 2 ≤ length bs
-    → v ≡ value 256 (take 2 bs) → read_ledger Second last n hopping (drop 2 bs) ≡ got us behind → read_filler last n "plan_length" v us behind ≡ got ps rest
+    → v ≡ value 256 (take 2 bs) → read_ledger Second last n hopping (drop 2 bs) ≡ got us behind
+    → read_filler last n "plan_length" v us behind ≡ got ps rest
     → PlanOfSecond last n bs ps rest
 filler_of {ps} {rest} last n v bs us behind b two ev r e =
     let q : ℕ = value 256 (take 2 behind) in
@@ -166,7 +179,8 @@ filler_of {ps} {rest} last n v bs us behind b two ev r e =
     let ly : length ys ≡ q = length-take-le q after p₁.0 in
     let lf : length fs ≡ 8 * q = length_bits ys ∙ ap (λ (m : ℕ). 8 * m) ly in
     let l8 : length fs / 8 ≡ q = omega arith in
-    let y : bytes_of (length ys) (bits_of ys ++ []) ≡ ys = bytes_bits ys [] (below_take 256 q after (below_drop 256 2 behind b)) in
+    let y : bytes_of (length ys) (bits_of ys
+    ++ []) ≡ ys = bytes_bits ys [] (below_take 256 q after (below_drop 256 2 behind b)) in
     let y' : bytes_of q fs ≡ ys = rw (append-nil (bits_of ys), ly) at y in
     record {
       us = us;
@@ -201,6 +215,8 @@ module _ {last : Bool} {s : Syntax} {us : List Field} (nm : Name) (v : ℕ) (g :
   unfolding ledger
   planned_first fs = Good.ledger_filler First us fs ∙ append-nil (ledger First us) ∙ h First
 
-  pub planned_second : {c : List ℕ} (fs : List ℕ) → counted_bytes fs ≡ c → ledger Second (planned nm v us fs) ≡ digits 256 2 v ++ (f ++ c)
+  pub planned_second : {c : List ℕ} (fs : List ℕ) → counted_bytes fs ≡ c
+      → ledger Second (planned nm v us fs) ≡ digits 256 2 v ++ (f ++ c)
   unfolding ledger
-  planned_second fs e = ap (λ (y : List ℕ). digits 256 2 v ++ y) (Good.ledger_filler Second us fs ∙ ap₂ (λ (y z : List ℕ). y ++ z) (h Second) e)
+  planned_second fs e = ap (λ (y : List ℕ). digits 256 2 v ++ y) (Good.ledger_filler Second us fs
+      ∙ ap₂ (λ (y z : List ℕ). y ++ z) (h Second) e)

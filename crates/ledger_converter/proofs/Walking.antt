@@ -44,10 +44,12 @@ record Next (from : Edition) (l : List ℕ) (c place : ℕ) (es : List (List Fie
   reads : read_ledger from (eqb c 0) (length l) beamhopping (drop place l) ≡ got ts rest
   goes : counted from (length l) beamhopping c rest ≡ got later []
 
-next : {from : Edition} {l : List ℕ} {place : ℕ} {es : List (List Field)} (c : ℕ) → Left from l (suc c) place es → Next from l c place es
+next : {from : Edition} {l : List ℕ} {place : ℕ} {es : List (List Field)} (c : ℕ) → Left from l (suc c) place es
+    → Next from l c place es
 unfolding counted
 next {from} {l} {place} c e =
-    let o = then_got (read_ledger from (eqb c 0) (length l) beamhopping (drop place l)) (λ ts rest. push ts (counted from (length l) beamhopping c rest)) e in
+    let o = then_got (read_ledger from (eqb c 0) (length l) beamhopping (drop place l))
+    (λ ts rest. push ts (counted from (length l) beamhopping c rest)) e in
     let p = push_got o.0 (counted from (length l) beamhopping c o.1) o.3 in
     record { ts = o.0; later = p.0; rest = o.1; is = p.2; reads = o.2; goes = p.1 }
 
@@ -56,7 +58,8 @@ unfolding counted
 none_left from l place e = cc
 
 -- the test of one more entry, by that of a plan that it has the parts of
-test_passed : (ed : Edition) (i : ℕ) (p : Plan) (ts : List Field) (es : List (List Field)) → exact ts ≡ has_all First p → has_all ed p ≡ true
+test_passed : (ed : Edition) (i : ℕ) (p : Plan) (ts : List Field) (es : List (List Field))
+    → exact ts ≡ has_all First p → has_all ed p ≡ true
     → (q : Parse (List ℕ)) → from_index ed i (ts ∷ es) q ≡ from_index ed (i + 1) es q
 unfolding all_exact
 test_passed First i p ts es e h q =
@@ -64,7 +67,8 @@ test_passed First i p ts es e h q =
     rw (e, h) (ap (λ (k : ℕ). all_exact k es q) z)
 test_passed Second i p ts es e h q = refl
 
-test_failed : (ed : Edition) (i : ℕ) (p : Plan) (ts : List Field) (es : List (List Field)) → exact ts ≡ has_all First p → has_all ed p ≡ false
+test_failed : (ed : Edition) (i : ℕ) (p : Plan) (ts : List Field) (es : List (List Field))
+    → exact ts ≡ has_all First p → has_all ed p ≡ false
     → (q : Parse (List ℕ)) → from_index ed i (ts ∷ es) q ≡ refused PlanInexact i 0
 unfolding all_exact
 test_failed First i p ts es e h q = rw (e, h) refl
@@ -118,7 +122,8 @@ begin : (ed : Edition) (es : List (List Field)) (p : Parse (List ℕ)) → lossl
 begin First es p = refl
 begin Second es p = refl
 
-pub begins : {from ed : Edition} {l out : List ℕ} {count start : ℕ} → PlansThere from l → count ≡ value 256 (take 2 (drop 4 l)) → start ≤ 6
+pub begins : {from ed : Edition} {l out : List ℕ} {count start : ℕ} → PlansThere from l
+    → count ≡ value 256 (take 2 (drop 4 l)) → start ≤ 6
     → Walking from ed l out start count 0 6 start out
 begins {from} {ed} {l} {count = count} w q h =
     record {
@@ -154,7 +159,8 @@ module _ {from ed : Edition} {l out₀ out : List ℕ} {start count i place at :
     pub few : length l ≤ 65537 → length p.head.now + (length p.fields.bytes.now + length p.filler.now) ≤ 65537
     few s = omega (arith, parts.size, parts.within)
 
-    pub turn : {out' : List ℕ} {at' : ℕ} → has_all ed p ≡ true → Appended (bytes_in ed p) at out out' at' → Walking from ed l out₀ start count (i + 1) p.next at' out'
+    pub turn : {out' : List ℕ} {at' : ℕ} → has_all ed p ≡ true → Appended (bytes_in ed p) at out out' at'
+        → Walking from ed l out₀ start count (i + 1) p.next at' out'
     unfolding ledgers
     turn {out'} {at'} t x =
         let n = step h in
@@ -165,26 +171,32 @@ module _ {from ed : Edition} {l out₀ out : List ℕ} {start count i place at :
           laid = w.laid ++ bytes_in ed p;
           all = w.all;
           there = ap (counted from (length l) beamhopping (count - (i + 1))) (sym y.behind) ∙ n.goes;
-          tested = λ q. w.tested q ∙ ap (λ (es : List (List Field)). from_index ed i es q) n.is ∙ test_passed ed i p n.ts n.later y.exact t q;
-          bytes = w.bytes ∙ ap (λ (es : List (List Field)). w.laid ++ ledgers ed es) n.is ∙ ap (λ (b : List ℕ). w.laid ++ (b ++ ledgers ed n.later)) (y.bytes ed)
+          tested = λ q. w.tested q ∙ ap (λ (es : List (List Field)). from_index ed i es q) n.is
+              ∙ test_passed ed i p n.ts n.later y.exact t q;
+          bytes = w.bytes ∙ ap (λ (es : List (List Field)). w.laid ++ ledgers ed es) n.is
+              ∙ ap (λ (b : List ℕ). w.laid ++ (b ++ ledgers ed n.later)) (y.bytes ed)
               ∙ sym (append_assoc w.laid (bytes_in ed p) (ledgers ed n.later));
           appended = also w.appended x;
           small = omega (arith, x.size, bytes_few ed p, y.size, w.small);
           within = y.within;
         }
 
-    pub stop : {before after : List ℕ} → count ≡ value 256 (take 2 (drop 4 l)) → has_all ed p ≡ false → Plans from ed l before after (Err (refuse PlanInexact i 0))
+    pub stop : {before after : List ℕ} → count ≡ value 256 (take 2 (drop 4 l)) → has_all ed p ≡ false
+        → Plans from ed l before after (Err (refuse PlanInexact i 0))
     stop k t =
         record {
           to = λ es e.
               let z : w.es ≡ es = one_reading w.all (rw k e) in
-              λ v. ap (λ (x : List (List Field)). lossless ed x v) (sym z) ∙ w.tested v ∙ ap (λ (x : List (List Field)). from_index ed i x v) (step h).is ∙ test_failed ed i p (step h).ts (step h).later parts.exact t v;
+              λ v. ap (λ (x : List (List Field)). lossless ed x v) (sym z) ∙ w.tested v
+              ∙ ap (λ (x : List (List Field)). from_index ed i x v) (step h).is
+              ∙ test_failed ed i p (step h).ts (step h).later parts.exact t v;
         }
 
   pub small_place : length l ≤ 65537 → i < count → count ≤ 65535 → at ≤ 600000
   small_place s h c = omega (arith, w.small, w.within)
 
-  pub ends : {before : List ℕ} → count ≡ value 256 (take 2 (drop 4 l)) → Appended (take 2 (drop 4 l)) 4 before out₀ start → count ≤ i
+  pub ends : {before : List ℕ} → count ≡ value 256 (take 2 (drop 4 l))
+      → Appended (take 2 (drop 4 l)) 4 before out₀ start → count ≤ i
       → Plans from ed l before out (Ok at)
   unfolding ledgers
   ends k a h =
@@ -193,8 +205,10 @@ module _ {from ed : Edition} {l out₀ out : List ℕ} {start count i place at :
             let z : w.es ≡ es = one_reading w.all (rw k e) in
             let c : count - i ≡ 0 = omega arith in
             let n : w.left ≡ [] = none_left from l place (rw c at w.there) in
-            let b : ledgers ed es ≡ w.laid = ap (ledgers ed) (sym z) ∙ w.bytes ∙ ap (λ (x : List (List Field)). w.laid ++ ledgers ed x) n ∙ append-nil w.laid in (
-              λ v. ap (λ (x : List (List Field)). lossless ed x v) (sym z) ∙ w.tested v ∙ ap (λ (x : List (List Field)). from_index ed i x v) n ∙ nothing ed i v,
+            let b : ledgers ed es ≡ w.laid = ap (ledgers ed) (sym z) ∙ w.bytes
+            ∙ ap (λ (x : List (List Field)). w.laid ++ ledgers ed x) n ∙ append-nil w.laid in (
+              λ v. ap (λ (x : List (List Field)). lossless ed x v) (sym z) ∙ w.tested v
+                  ∙ ap (λ (x : List (List Field)). from_index ed i x v) n ∙ nothing ed i v,
               named (ap (λ (x : List ℕ). take 2 (drop 4 l) ++ x) (sym b)) (also a w.appended),
             );
       }

@@ -23,7 +23,8 @@ pub record Appended (xs : List ℕ) (at : ℕ) (out out' : List ℕ) (behind : �
 abbrev pub bytes_in : Edition → Plan → List ℕ
 bytes_in First p = p.head.now ++ p.fields.bytes.now
 bytes_in Second p =
-    p.head.now ++ (digits 256 2 p.length ++ (p.fields.bytes.now ++ (digits 256 2 (length p.filler.now) ++ p.filler.now)))
+    p.head.now ++ (digits 256 2 p.length
+    ++ (p.fields.bytes.now ++ (digits 256 2 (length p.filler.now) ++ p.filler.now)))
 
 -- whether an edition has all of it
 abbrev pub has_all : Edition → Plan → Bool

@@ -30,8 +30,8 @@ struct Fields<'a> {
     end: usize,
 }
 
-// A plan of a ledger in its parts: the bytes of its head, its length, its fields, the bytes of its filler, and the place
-// behind it.
+// A plan of a ledger in its parts: the bytes of its head, its length, its fields, the bytes of its filler, and the
+// place behind it.
 #[derive(Clone, Copy)]
 struct Plan<'a> {
     head: &'a [u8],
@@ -227,7 +227,8 @@ pub fn convert_measure(edition: Edition, ledger: &[u8]) -> Result<Output, Refusa
 // A ledger in the edition that is wanted, stored from the buffer's start on where there is room for it; after a refusal
 // the buffer is as it was.
 pub fn ledger_convert(edition: Edition, ledger: &[u8], out: &mut [u8]) -> Result<Output, Refusal>
-    ensures { (result ≡ convert_answer edition ledger.now (length out.old)) × (out.new ≡ convert_left edition ledger.now out.old) }
+    ensures { (result ≡ convert_answer edition ledger.now (length out.old))
+        × (out.new ≡ convert_left edition ledger.now out.old) }
 {
     let measured = measure_in(edition, ledger)?;
     let table_id = measured.output.table_id;

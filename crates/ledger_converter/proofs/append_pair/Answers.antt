@@ -4,7 +4,8 @@ use Rattle.ledger_converter.proofs.Appends.{pair_fits, pair_short}
 use Rattle.ledger_converter.proofs.append_pair.Goals as goal
 
 pub returns-then-behind-out-clause-appended : goal.returns-then-behind-out-clause-appended
-returns-then-behind-out-clause-appended c = pair_fits c.args.v c.args.at c.args.out.now c.put_be.new.out c.if-behind-out.true c.put_be.ensures
+returns-then-behind-out-clause-appended c =
+    pair_fits c.args.v c.args.at c.args.out.now c.put_be.new.out c.if-behind-out.true c.put_be.ensures
 
 pub returns-else-behind-out-clause-appended : goal.returns-else-behind-out-clause-appended
 returns-else-behind-out-clause-appended c = pair_short c.args.v c.args.at c.args.out.now c.if-behind-out.false

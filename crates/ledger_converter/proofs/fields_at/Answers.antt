@@ -14,4 +14,5 @@ pub slice_bounds-result-end : goal.slice_bounds-result-end
 slice_bounds-result-end c = omega (arith, forward c.in_ok-fields.ensures.laid)
 
 pub returns : goal.returns
-returns c = fields_yes c.in_ok-fields.ensures.laid (below_of 256 c.args.ledger.now (λ i. omega (arith, c.type_inv.ledger i))) refl refl refl
+returns c = fields_yes c.in_ok-fields.ensures.laid (below_of 256 c.args.ledger.now
+    (λ i. omega (arith, c.type_inv.ledger i))) refl refl refl

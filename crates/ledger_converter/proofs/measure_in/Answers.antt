@@ -20,5 +20,6 @@ returns-in_err-length c = measures_no (search rules) (lost c.args.edition c.args
 pub returns : goal.returns
 returns c =
     let m = c.in_ok-held.ensures.to in
-    measures_yes c.in_ok-held.held (read_as_lem (below_of 256 c.args.ledger.now (λ i. omega (arith, c.type_inv.ledger i))) m.0 m.1)
+    measures_yes c.in_ok-held.held (read_as_lem (below_of 256 c.args.ledger.now
+    (λ i. omega (arith, c.type_inv.ledger i))) m.0 m.1)
     c.in_ok-length.ensures.to

@@ -12,7 +12,9 @@ fields_at-requires c = five (below_of 256 c.args.ledger.now (λ i. omega (arith,
 
 pub returns-in_err-fields : goal.returns-in_err-fields
 returns-in_err-fields c =
-    first_no (below_of 256 c.args.ledger.now (λ i. omega (arith, c.type_inv.ledger i))) (search rules) c.in_err-fields.ensures
+    first_no (below_of 256 c.args.ledger.now
+    (λ i. omega (arith, c.type_inv.ledger i))) (search rules) c.in_err-fields.ensures
 
 pub returns : goal.returns
-returns c = first_yes (below_of 256 c.args.ledger.now (λ i. omega (arith, c.type_inv.ledger i))) c.in_ok-fields.ensures refl refl refl refl
+returns c = first_yes (below_of 256 c.args.ledger.now
+    (λ i. omega (arith, c.type_inv.ledger i))) c.in_ok-fields.ensures refl refl refl refl
