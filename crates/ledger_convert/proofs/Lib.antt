@@ -1,0 +1,4 @@
+pub mod Cuts
+pub mod Told
+pub mod Conversions
+pub mod Reading
