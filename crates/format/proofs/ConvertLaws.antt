@@ -154,7 +154,8 @@ module _ (l : List ℕ) (t : Table) (h : Below 256 l) (e : ledger_read l ≡ got
   pub reads_same : (ed : Edition) → form_of ed t ≡ t → ledger_read (ledger_of ed (id_of l) t) ≡ got t []
   reads_same ed f = ledger_again ed read_body_accepted ∙ ap (λ (u : Table). got u []) f
 
-  other_form : (ed : Edition) → (id_of l ≡ 3 → ⊥) → form_of ed t ≡ t
+  -- under another id than 3 they do so through either
+  pub other_form : (ed : Edition) → (id_of l ≡ 3 → ⊥) → form_of ed t ≡ t
   other_form ed n = planless_table ed (planless_before_layout (layout (id_of l)) (planless_layout (id_of l) n)) good
 
 -- fields that come back through the wanted edition as they are make its ledger

@@ -47,7 +47,7 @@ pub record Passed (l : List ℕ) (t : Table) (r : List ℕ) : Type 0 where
   pub four : 4 ≤ length l
   pub long : value 256 (take 2 l) ≡ length l - 2
   edition : version (edition_of l) ≡ version_of l
-  content : content_as (edition_of l) (length l) (layout (id_of l)) (drop 4 l) ≡ got t r
+  pub content : content_as (edition_of l) (length l) (layout (id_of l)) (drop 4 l) ≡ got t r
   size : length (body_of (edition_of l) t) ≤ 4096
 
 pub passed : (l : List ℕ) {t : Table} {r : List ℕ} → ledger_read l ≡ got t r → Passed l t r

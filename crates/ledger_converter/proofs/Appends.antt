@@ -2,13 +2,13 @@
 -- Assumes nothing.
 use Prim.Native.Nat.{ℕ, ◌+◌, ◌-◌, ◌≤◌, ◌<◌}
 use mathlib.Core.Path.{◌≡◌, refl, sym, ap, ◌∙◌, subst}
-use mathlib.Core.List.{List, ◌++◌}
+use mathlib.Core.List.{List, [], ◌++◌}
 use native.Mathlib.Omega.{arith}
 use lib.ListN.{length, length-append}
 use borrow.Rule.Slice.PartMut.{mid_of, put_mid, mid_len, same_len_mid}
 use Rattle.format.specs.Digits.{digits, splice}
 use Rattle.format.proofs.DigitLaws.{length_digits}
-use Rattle.bits.proofs.Splices.{length_splice, splice_splice, part_splice}
+use Rattle.bits.proofs.Splices.{length_splice, splice_nil, splice_splice, part_splice}
 use Rattle.runs.specs.Stored.{stored}
 use Rattle.runs.proofs.Stores.{stored_fits, stored_length}
 use Rattle.ledger_converter.specs.Plans.{Appended}
@@ -43,6 +43,10 @@ pub pair_short : (v at : ℕ) (out : List ℕ) → length out < at + 2 → Appen
 pair_short v at out h =
     let n : length (digits 256 2 v) ≡ 2 = length_digits 256 2 v in
     record { size = omega arith; bytes = λ r. absurd (omega arith); long = refl }
+
+-- nothing
+pub nothing_yet : {out : List ℕ} {at : ℕ} → Appended [] at out out at
+nothing_yet {out} {at} = record { size = omega arith; bytes = λ _. sym (splice_nil out at); long = refl }
 
 -- two pieces, one behind the other
 pub also : {xs ys out out₁ out₂ : List ℕ} {at m n : ℕ} → Appended xs at out out₁ m → Appended ys m out₁ out₂ n → Appended (xs ++ ys) at out out₂ n

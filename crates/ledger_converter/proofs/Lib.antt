@@ -1,3 +1,6 @@
 mod Appends
 mod PlanParts
 mod PlanFacts
+mod Walking
+mod Contents
+mod Conversions

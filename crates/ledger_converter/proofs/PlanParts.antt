@@ -1,6 +1,6 @@
 -- What is known of a plan that is read from a ledger: its parts, their places, and its bytes in each edition.
 -- Assumes nothing.
-use Prim.Native.Nat.{ℕ, ◌+◌, ◌-◌, ◌*◌, ◌/◌, ◌%◌, ◌^◌, ◌≤◌, ◌<◌}
+use Prim.Native.Nat.{ℕ, ◌-◌, ◌*◌, ◌/◌, ◌%◌, ◌^◌, ◌≤◌}
 use mathlib.Core.Path.{◌≡◌, refl, sym, ap, ap₂, ◌∙◌}
 use mathlib.Core.Bool.{Bool, true, false, cond, ◌&&◌}
 use mathlib.Core.List.{List, [], ◌∷◌, ◌++◌, append_assoc, append-nil}
@@ -10,7 +10,7 @@ use lib.ListN.{length, take, drop, length-append, length-drop}
 use lib.Seq.{take_at, take-add, drop-drop, length-take-le}
 use borrow.Author.Tests.{eqb-true}
 use Rattle.format.specs.Digits.{digits, value, Below, bits_of, bytes_of}
-use Rattle.format.specs.Syntax.{Name, unsigned, Syntax, plan, before, Field, num, flags, bytes, len, filler, Parse, got, refused, and_then, push}
+use Rattle.format.specs.Syntax.{Name, unsigned, Syntax, plan, before, Field, num, filler, Parse, got, refused, and_then, push}
 use Rattle.format.specs.declared.Edition.{Edition}
 use Rattle.format.specs.declared.Edition.TheVariants.{First, Second}
 use Rattle.format.specs.declared.Fault.TheVariants.{PlanLengthMisfit}

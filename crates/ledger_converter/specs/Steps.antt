@@ -5,7 +5,6 @@ use Rattle.format.specs.Digits.{digits, value}
 use Rattle.format.specs.Syntax.{Field, Parse, got, refused}
 use Rattle.format.specs.declared.Edition.{Edition}
 use Rattle.format.specs.declared.Refusal.{Refusal}
-use Rattle.format.specs.declared.Output.{Output}
 use Rattle.format.specs.Tables.{beamhopping}
 use Rattle.format.specs.Whole.{Table, ledgers, counted, version, id_of, edition_of, ledger_read}
 use Rattle.format.specs.Convert.{lossless, converted}

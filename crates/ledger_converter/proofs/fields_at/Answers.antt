@@ -11,7 +11,7 @@ pub returns-in_err-fields : goal.returns-in_err-fields
 returns-in_err-fields c = fields_no (search rules) c.in_err-fields.ensures.laid
 
 pub slice_bounds-result-end : goal.slice_bounds-result-end
-slice_bounds-result-end c = forward c.in_ok-fields.ensures.laid
+slice_bounds-result-end c = omega (arith, forward c.in_ok-fields.ensures.laid)
 
 pub returns : goal.returns
 returns c = fields_yes c.in_ok-fields.ensures.laid (below_of 256 c.args.ledger.now (λ i. omega (arith, c.type_inv.ledger i))) refl refl refl
