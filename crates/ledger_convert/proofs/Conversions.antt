@@ -1,16 +1,16 @@
 -- What the converter's answer and the buffers make of a ledger.
 -- Assumes nothing.
-use Prim.Native.Nat.{ℕ, zero, suc, ◌+◌, ◌<◌, ◌≤◌}
+use Prim.Native.Nat.{ℕ, ◌+◌, ◌≤◌}
 use native.Mathlib.Omega.{arith}
 use mathlib.Core.Path.{◌≡◌, refl, sym, ap, ◌∙◌, subst}
-use mathlib.Core.Bool.{Bool, true, false, cond}
+use mathlib.Core.Bool.{true, false}
 use mathlib.Core.List.{List, [], ◌∷◌, ◌++◌}
-use lib.ListN.{length, take, drop, length-append}
+use lib.ListN.{length, take, length-append}
 use borrow.Author.Tests.{le-leb}
-use Rattle.std.specs.Prelude.{Option, Some, None, unwrap_or, Result, Ok, Err}
+use Rattle.std.specs.Prelude.{Option, unwrap_or, Result, Ok, Err}
 use Rattle.std.specs.Io.KnownBytes.{Appends}
 use Rattle.std.proofs.KnownBytes.{Appends-nil}
-use Rattle.format.specs.Digits.{Below, splice}
+use Rattle.format.specs.Digits.{Below}
 use Rattle.format.specs.Refusals.{refuse, fault_number}
 use Rattle.format.specs.Syntax.{Parse, got, refused}
 use Rattle.format.specs.declared.Edition.{Edition}
@@ -102,7 +102,7 @@ unfolding is_empty
 some_byte [] ys x = refl
 some_byte (y ∷ xs) ys x = refl
 
-placed_some : (place : ℕ) (line : List ℕ) → is_empty (placed place line) ≡ false
+pub placed_some : (place : ℕ) (line : List ℕ) → is_empty (placed place line) ≡ false
 unfolding placed
 placed_some place line = some_byte (decimal place) line 32
 

@@ -2,14 +2,13 @@
 -- Assumes nothing.
 use Prim.Native.Nat.{ℕ, ◌+◌, ◌-◌, ◌<◌, ◌≤◌}
 use native.Mathlib.Omega.{arith}
-use native.Mathlib.Nat.{le_refl}
-use mathlib.Core.Path.{◌≡◌, refl, sym, ap, ◌∙◌, subst}
-use mathlib.Core.List.{List, [], ◌∷◌, ◌++◌, append_assoc}
+use mathlib.Core.Path.{◌≡◌, sym, ap, ◌∙◌, subst}
+use mathlib.Core.List.{List, ◌++◌}
 use lib.ListN.{length, take, drop, length-append}
 use lib.Seq.{take_at, drop_at, take-add, take-append-le, length-take-le}
 use borrow.Rule.Slice.PartMut.{post_of, put_mid}
-use Rattle.std.specs.Prelude.{Option, Result, Ok, Err}
-use Rattle.std.specs.Io.KnownBytes.{Consumes, Keeps, IsAtEnd}
+use Rattle.std.specs.Prelude.{Option, Result, Ok, Err, IsErr}
+use Rattle.std.specs.Io.KnownBytes.{Consumes, Keeps}
 use Rattle.std.proofs.KnownBytes.{Consumes-trans, Consumes-kept}
 use Rattle.std.proofs.Common.{take_all}
 use Rattle.ledger_convert.specs.Archive.{size_in_front}
@@ -42,13 +41,18 @@ filled_kept a b c buf part at room h p q =
 pub fetched_short : (old new : Option (List ℕ)) (part after : List ℕ) (n : ℕ) → length part ≡ 2 → n < 2
     → Filled {E = Unit {0}} old new part (Ok n) → Fetched {E = Unit {0}} old new (part ++ after) (Ok n)
 fetched_short old new part after n h k f =
-    let same = take-append-le n part after f.0 in
-    (
+    let same = take-append-le n part after f.0 in (
       omega (arith, f.0, length-append part after),
       subst (Consumes old new) (sym same) f.1,
       omega (arith, k, two_at_least (take n (part ++ after))),
       λ _. f.2 (omega arith),
     )
+
+-- a read failed behind them
+pub fetched_failed : {E : Type 0} (old mid new : Option (List ℕ)) (part whole more : List ℕ) (r : Result ℕ E)
+    → Consumes old mid part → Consumes mid new more → IsErr r → Fetched old new whole r
+fetched_failed old mid new part whole more (Ok n) p q h = absurd cc
+fetched_failed old mid new part whole more (Err e) p q h = (part ++ more, Consumes-trans old mid new part more p q)
 
 -- the bytes of a length, and those behind them
 pub fetched_long : (old mid new : Option (List ℕ)) (part part' rest after : List ℕ) (n size : ℕ) → length part ≡ 2
@@ -66,8 +70,7 @@ fetched_long old mid new part part' rest after n size h p s l f =
     ap size_in_front all ∙ size_append part (take n part') (omega (arith, h)) ∙ sym s in
     let started : Consumes old mid part = subst (Consumes old mid) (take_all 2 part (omega (arith, h))) p in
     let long : length whole ≡ 2 + (length part' + length after) =
-    length-append (take 2 (part ++ rest)) (part' ++ after) ∙ omega (arith, ap length front, h, length-append part' after) in
-    (
+    length-append (take 2 (part ++ rest)) (part' ++ after) ∙ omega (arith, ap length front, h, length-append part' after) in (
       omega (arith, long, f.0),
       subst (Consumes old new) (sym all) (Consumes-trans old mid new part (take n part') started f.1),
       omega (arith, same, f.0, l, s, two),

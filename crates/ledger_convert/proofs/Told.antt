@@ -1,20 +1,20 @@
 -- What comes of an archive grows by what comes of its next ledger.
 -- Assumes nothing.
-use Prim.Native.Nat.{ℕ, zero, suc, ◌+◌, ◌<◌, ◌≤◌}
+use Prim.Native.Nat.{ℕ, ◌+◌, ◌<◌, ◌≤◌}
 use native.Mathlib.Omega.{arith}
-use native.Mathlib.Nat.{add_assoc, add-zero, zero-add}
+use native.Mathlib.Nat.{add-zero, zero-add}
 use mathlib.Core.Path.{◌≡◌, refl, sym, ap, ◌∙◌, subst}
-use mathlib.Core.Bool.{Bool, true, false, cond, ◌&&◌}
+use mathlib.Core.Bool.{Bool, true, ◌&&◌}
 use mathlib.Core.List.{List, [], ◌∷◌, ◌++◌, append_assoc, append-nil}
 use lib.ListN.{length, length-append}
-use Rattle.std.specs.Prelude.{Option, Result, Ok}
+use Rattle.std.specs.Prelude.{Option, Ok}
 use Rattle.std.specs.Io.KnownBytes.{Appends}
 use Rattle.std.proofs.KnownBytes.{Appends-nil, Appends-trans}
 use Rattle.format.specs.declared.Edition.{Edition}
 use Rattle.format.specs.Convert.{converted}
 use Rattle.ledger_convert.specs.Archive.{size_in_front, ledgers_in, written, reported, outputs, reports, archive_output, archive_report, is_empty, cut}
 use Rattle.ledger_convert.specs.Streams.{Sent, Told}
-use Rattle.ledger_convert.proofs.Cuts.{Closed, closed_nil, one_more, joined, joined_ledgers}
+use Rattle.ledger_convert.proofs.Cuts.{Closed, one_more, joined, joined_ledgers}
 
 pub outputs_append : (ed : Edition) (ls ms : List (List ℕ)) → outputs ed (ls ++ ms) ≡ outputs ed ls ++ outputs ed ms
 unfolding outputs
@@ -61,11 +61,10 @@ module _ (ed : Edition) (xs l : List ℕ) (c : Closed xs) (h : 0 < length l) (k 
   told_more {out} {out'} {out''} {report} {report'} {report''} {all} {b} t e s =
       let r = reported (length xs) (converted ed l) in
       let o = Appends-trans out out' out'' (archive_output ed xs) (written (converted ed l)) t.on_output s.0 in
-      let p = Appends-trans report report' report'' (archive_report ed xs) r t.on_report s.1 in
-      (
+      let p = Appends-trans report report' report'' (archive_report ed xs) r t.on_report s.1 in (
         record {
           on_output = subst (Appends out out'') (sym output_more) o;
-          on_report = subst (Appends report report'') (sym report_more) p
+          on_report = subst (Appends report report'') (sym report_more) p;
         },
         rw (e, s.2) (sym (empty_append (archive_report ed xs) r)) ∙ ap is_empty (sym report_more),
       )
@@ -73,3 +72,7 @@ module _ (ed : Edition) (xs l : List ℕ) (c : Closed xs) (h : 0 < length l) (k 
 pub told_none : (ed : Edition) (out report : Option (List ℕ)) → Told ed [] out out report report
 unfolding archive_output archive_report ledgers_in outputs reports cut
 told_none ed out report = record { on_output = Appends-nil out; on_report = Appends-nil report }
+
+pub none_empty : (ed : Edition) → true ≡ is_empty (archive_report ed [])
+unfolding archive_report ledgers_in reports cut is_empty
+none_empty ed = refl

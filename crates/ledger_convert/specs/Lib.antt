@@ -1,2 +1,3 @@
 pub mod Archive
 pub mod Streams
+pub mod Samples

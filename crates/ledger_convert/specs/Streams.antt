@@ -1,7 +1,7 @@
 -- What a run does to its streams: the bytes that it takes of its input, and those that it writes.
 -- Where a stream's bytes are not known, as those of a file, nothing is said of them.
 -- Assumes nothing: these are definitions.
-use Rattle.std.specs.Prelude.{ℕ, ◌+◌, ◌≡◌, ◌≤◌, ◌<◌, Bool, List, [], ◌++◌, length, take, Option, Result, Ok, Err, ⊤}
+use Rattle.std.specs.Prelude.{ℕ, ◌≡◌, ◌≤◌, ◌<◌, Bool, List, ◌++◌, length, take, Option, Result, Ok, Err, ⊤}
 use Rattle.std.specs.Io.KnownBytes.{Consumes, Appends, IsAtEnd}
 use Rattle.format.specs.declared.Edition.{Edition}
 use Rattle.format.specs.Convert.{converted}

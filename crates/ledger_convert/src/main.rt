@@ -38,16 +38,19 @@ fn edition_named(word: &[u8]) -> Option<Edition>
     let [digit] = word else {
         return None;
     };
-    match *digit {
-        b'1' => Some(Edition::First),
-        b'2' => Some(Edition::Second),
-        _ => None,
+    if *digit == b'1' {
+        Some(Edition::First)
+    } else if *digit == b'2' {
+        Some(Edition::Second)
+    } else {
+        None
     }
 }
 
 // How many bytes the ledger takes that some bytes begin with: its length is in the first two.
 fn size_in_front(bytes: &[u8]) -> usize
-    ensures { result ≡ size_in_front bytes.now }
+    ensures is { result ≡ size_in_front bytes.now }
+    ensures range { (2 ≤ result) × (result ≤ 65537) }
 {
     let known = bytes.len().min(2);
     2 + get_be(bytes, 0, known) as usize
@@ -87,7 +90,8 @@ fn read_ledger<R: Read>(input: &mut R, ledger: &mut [u8; LEDGER_MOST]) -> io::Re
         return Ok(head);
     }
     let size = size_in_front(&ledger[..2]);
-    Ok(2 + read_full(input, &mut ledger[2..size])?)
+    let rest = read_full(input, &mut ledger[2..size])?;
+    Ok(2 + rest)
 }
 
 // Writes a ledger in the edition that is wanted, or reports at which place it is refused and why; whether it was
@@ -184,7 +188,9 @@ fn tell(rt: &HostRuntime, place: usize, words: &[u8]) {
 
 fn main(rt: HostRuntime) -> ExitCode {
     let Ok(edition) = wanted(&rt) else {
-        let _ = rt.stderr().write_all(b"ledger_convert: the arguments could not be read\n");
+        let _ = rt
+            .stderr()
+            .write_all(b"ledger_convert: the arguments could not be read\n");
         return ExitCode::FAILURE;
     };
     let Some(edition) = edition else {

@@ -1,7 +1,7 @@
 -- `convert_one` writes what the converter leaves, or the line of its refusal.
 -- Assumes nothing.
 use native.Mathlib.Omega.{arith}
-use mathlib.Core.Path.{sym, ◌∙◌}
+use mathlib.Core.Path.{sym}
 use lib.ListN.{replicate}
 use lib.Seq.{length-take-le}
 use Rattle.format.proofs.DigitLaws.{below_of}

@@ -2,7 +2,8 @@
 -- Assumes nothing.
 use native.Mathlib.Omega.{arith}
 use mathlib.Core.Path.{◌≡◌, ap, ◌∙◌}
-use Prim.Native.Nat.{ℕ, ◌+◌}
+use Prim.Native.Nat.{ℕ, ◌+◌, min}
+use lib.ListN.{length, take, drop}
 use mathlib.Core.List.{List}
 use Rattle.format.specs.Digits.{value}
 use Rattle.format.proofs.DigitLaws.{below_of}
@@ -10,15 +11,22 @@ use Rattle.ledger_convert.specs.Archive.{size_in_front}
 use Rattle.ledger_convert.proofs.Cuts.{front_known, size_most}
 use Rattle.ledger_convert.proofs.size_in_front.Goals as goal
 
-pub overflow_add-result : goal.overflow_add-result
+-- the first two bytes spell what is asked for
+front : (bytes : List ℕ) (n known : ℕ) → known ≡ min (length bytes) 2 → n ≡ value 256 (take known (drop 0 bytes))
+    → 2 + n ≡ size_in_front bytes
 unfolding size_in_front
-overflow_add-result c =
-    let e = c.get_be.ensures ∙ ap (value 256) (front_known c.args.bytes.now c.min-known.result c.min-known.ensures) in
-    let most = size_most c.args.bytes.now (below_of 256 c.args.bytes.now (λ i. omega (arith, c.type_inv.bytes i))) in
-    omega (arith, e, most)
+front bytes n known k e = ap (λ (m : ℕ). 2 + m) (e ∙ ap (value 256) (front_known bytes known k))
 
-pub returns : goal.returns
-unfolding size_in_front
-returns c =
-    ap (λ (n : ℕ). 2 + n)
-    (c.get_be.ensures ∙ ap (value 256) (front_known c.args.bytes.now c.min-known.result c.min-known.ensures))
+pub overflow_add-result : goal.overflow_add-result
+overflow_add-result c =
+    let e = front c.args.bytes.now c.get_be.result c.min-known.result c.min-known.ensures c.get_be.ensures in
+    omega (arith, e, size_most c.args.bytes.now (below_of 256 c.args.bytes.now (λ i. omega (arith, c.type_inv.bytes i))))
+
+pub returns-clause-is : goal.returns-clause-is
+returns-clause-is c = front c.args.bytes.now c.get_be.result c.min-known.result c.min-known.ensures c.get_be.ensures
+
+pub returns-clause-range : goal.returns-clause-range
+returns-clause-range c =
+    let e = front c.args.bytes.now c.get_be.result c.min-known.result c.min-known.ensures c.get_be.ensures in
+    let most = size_most c.args.bytes.now (below_of 256 c.args.bytes.now (λ i. omega (arith, c.type_inv.bytes i))) in
+    (omega arith, omega (arith, e, most))
