@@ -1,6 +1,6 @@
 /* The calls of include/sat_ledger.h that fill a buffer, each with its further calls, under one form; and areas between
- * unreadable pages, so that a byte touched outside a buffer ends the program. For pages.c and ../ledger/batch.c, which
- * define _DEFAULT_SOURCE in front of it. */
+ * unreadable pages, so that a byte touched outside a buffer ends the program. For tried.h and ../ledger/batch.c, in
+ * front of which _DEFAULT_SOURCE is defined. */
 #ifndef CALLS_H
 #define CALLS_H
 
@@ -23,37 +23,37 @@ static uint8_t *fenced(size_t size)
     return p + SPAN;
 }
 
-/* ---- the reader takes no table id: a ledger names its own */
+/* the reader and the two ways between the editions take no table id: a ledger names its own */
+#define OF_A_LEDGER(call)                                                                        \
+    static uint32_t call##_(uint8_t id, const uint8_t *in, size_t n, uint8_t *out, size_t room)  \
+    {                                                                                            \
+        (void)id;                                                                                \
+        return call(in, n, out, room);                                                           \
+    }                                                                                            \
+    static size_t call##_need_(uint8_t id, const uint8_t *in, size_t n, size_t room)             \
+    {                                                                                            \
+        (void)id;                                                                                \
+        return call##_need(in, n, room);                                                         \
+    }                                                                                            \
+    static size_t call##_have_(uint8_t id, const uint8_t *in, size_t n, size_t room)             \
+    {                                                                                            \
+        (void)id;                                                                                \
+        return call##_have(in, n, room);                                                         \
+    }                                                                                            \
+    static size_t call##_length_(uint8_t id, const uint8_t *in, size_t n, size_t room)           \
+    {                                                                                            \
+        (void)id;                                                                                \
+        return call##_length(in, n, room);                                                       \
+    }                                                                                            \
+    static uint8_t call##_table_id_(uint8_t id, const uint8_t *in, size_t n, size_t room)        \
+    {                                                                                            \
+        (void)id;                                                                                \
+        return call##_table_id(in, n, room);                                                     \
+    }
 
-static uint32_t read_(uint8_t id, const uint8_t *in, size_t n, uint8_t *out, size_t room)
-{
-    (void)id;
-    return sat_ledger_read(in, n, out, room);
-}
-
-static size_t read_need(uint8_t id, const uint8_t *in, size_t n, size_t room)
-{
-    (void)id;
-    return sat_ledger_read_need(in, n, room);
-}
-
-static size_t read_have(uint8_t id, const uint8_t *in, size_t n, size_t room)
-{
-    (void)id;
-    return sat_ledger_read_have(in, n, room);
-}
-
-static size_t read_length(uint8_t id, const uint8_t *in, size_t n, size_t room)
-{
-    (void)id;
-    return sat_ledger_read_length(in, n, room);
-}
-
-static uint8_t read_table_id(uint8_t id, const uint8_t *in, size_t n, size_t room)
-{
-    (void)id;
-    return sat_ledger_read_table_id(in, n, room);
-}
+OF_A_LEDGER(sat_ledger_read)
+OF_A_LEDGER(sat_ledger_to_edition_1)
+OF_A_LEDGER(sat_ledger_to_edition_2)
 
 /* the ids are 32-bit units; 22, and the lengths, count these */
 static uint32_t ids(uint8_t id, const uint8_t *in, size_t n, uint8_t *out, size_t room)
@@ -78,7 +78,12 @@ static const Call
     WRITE_2 = {"sat_ledger_write_edition_2", 1, SAT_LEDGER_MAX, sat_ledger_write_edition_2,
                sat_ledger_write_edition_2_need, sat_ledger_write_edition_2_have, sat_ledger_write_edition_2_length,
                sat_ledger_write_edition_2_table_id},
-    READ = {"sat_ledger_read", 1, SAT_LEDGER_MAX, read_, read_need, read_have, read_length, read_table_id},
+    READ = {"sat_ledger_read", 1, SAT_LEDGER_MAX, sat_ledger_read_, sat_ledger_read_need_, sat_ledger_read_have_,
+            sat_ledger_read_length_, sat_ledger_read_table_id_},
+    TO_1 = {"sat_ledger_to_edition_1", 1, SAT_LEDGER_MAX, sat_ledger_to_edition_1_, sat_ledger_to_edition_1_need_,
+            sat_ledger_to_edition_1_have_, sat_ledger_to_edition_1_length_, sat_ledger_to_edition_1_table_id_},
+    TO_2 = {"sat_ledger_to_edition_2", 1, SAT_LEDGER_MAX, sat_ledger_to_edition_2_, sat_ledger_to_edition_2_need_,
+            sat_ledger_to_edition_2_have_, sat_ledger_to_edition_2_length_, sat_ledger_to_edition_2_table_id_},
     PLAIN = {"sat_plain_body", 1, SAT_LEDGER_MAX, sat_plain_body, sat_plain_body_need, sat_plain_body_have,
              sat_plain_body_length, sat_plain_body_table_id},
     KEPT = {"sat_kept_body", 1, SAT_LEDGER_MAX, sat_kept_body, sat_kept_body_need, sat_kept_body_have,

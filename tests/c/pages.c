@@ -1,113 +1,13 @@
-/* Buffers against unreadable pages: pages BODIES LEDGERS PLAINS IDS CASES_2 LEDGERS_2 STORED, files with one case a
- * line. BODIES and LEDGERS are the replay list with its answers, the Rust's but for those refused by 30 (S-23), which
- * are tests/replay/read.py's; PLAINS is what tests/replay/decode.py makes of the ledgers, IDS what tests/replay/ids.py
- * lists of the bodies; every tenth case, the first 130 and all refused by 30 are tried. CASES_2, LEDGERS_2 and STORED
- * are tests/replay/edition_2.txt, damaged_2.txt and stored.txt, tried whole. None comes from the code under test. A
- * byte touched outside a buffer ends the program.
+/* Buffers against unreadable pages: pages BODIES LEDGERS PLAINS IDS CASES_2 LEDGERS_2 STORED CONVERTED, files with one
+ * case a line. BODIES and LEDGERS are the replay list with its answers, the Rust's but for those refused by 30 (S-23),
+ * which are tests/replay/read.py's; PLAINS is what tests/replay/decode.py makes of the ledgers, IDS what
+ * tests/replay/ids.py lists of the bodies; every tenth case, the first 130 and all refused by 30 are tried. CASES_2,
+ * LEDGERS_2, STORED and CONVERTED are tests/replay/edition_2.txt, damaged_2.txt, stored.txt and converted.txt, tried
+ * whole. None comes from the code under test. A byte touched outside a buffer ends the program.
  */
 #define _DEFAULT_SOURCE
-#include <ctype.h>
 #include <inttypes.h>
-#include "calls.h"
-
-static unsigned long checks, line;
-static const char *about = "";
-
-static void check(int holds, const char *what)
-{
-    checks++;
-    if (!holds) {
-        printf("line %lu %s: %s\n", line, about, what);
-        exit(1);
-    }
-}
-
-/* the bytes of a word of hexadecimal digits */
-static size_t unhex(const char *s, uint8_t *to)
-{
-    size_t n = 0;
-    unsigned v;
-    while (isxdigit((unsigned char)s[2 * n]) && sscanf(s + 2 * n, "%2x", &v) == 1)
-        to[n++] = (uint8_t)v;
-    return n;
-}
-
-/* ---- what is wanted of a call: the result's bytes and its size in units, or a refusal where bytes is NULL */
-
-typedef struct {
-    const uint8_t *bytes;
-    size_t size, number, need, have;
-} Want;
-
-static Want result(const void *bytes, size_t size)
-{
-    return (Want){bytes, size, 0, 0, 0};
-}
-
-static Want refusal(size_t number, size_t need, size_t have)
-{
-    return (Want){NULL, 0, number, need, have};
-}
-
-static void numbers(const Call *f, uint8_t id, const uint8_t *in, size_t n, size_t room, Want w)
-{
-    check(f->need(id, in, n, room) == w.need, "need");
-    check(f->have(id, in, n, room) == w.have, "have");
-    check(f->length(id, in, n, room) == (w.bytes ? w.size : 0), "length");
-    if (f->table_id != NULL)
-        check(f->table_id(id, in, n, room) == (w.bytes ? id : 0), "table id");
-}
-
-static uint8_t *in_area, *out_area;
-
-/* n bytes of input and room units of output, at the areas' ends or starts */
-static void one(const Call *f, uint8_t id, const uint8_t *in, size_t n, size_t room, int at_end, Want w)
-{
-    uint8_t *src = at_end ? in_area + SPAN - n : in_area;
-    uint8_t *out = at_end ? out_area + SPAN - f->unit * room : out_area;
-    about = f->name;
-    memcpy(src, in, n);
-    memset(out_area, 0xa5, SPAN);
-    if (w.bytes != NULL && room < w.size)
-        w = refusal(22, w.size, room);
-    check(f->fill(id, src, n, out, room) == w.number, "number");
-    numbers(f, id, src, n, room, w);
-    check(memcmp(src, in, n) == 0, "input changed");
-    size_t from = (size_t)(out - out_area);
-    for (size_t i = 0; i < SPAN; i++)
-        if (out_area[i] != (w.bytes && i >= from && i - from < f->unit * w.size ? w.bytes[i - from] : 0xa5))
-            check(0, "bytes left");
-    checks++;
-}
-
-static void rooms(const Call *f, uint8_t id, const uint8_t *in, size_t n, Want w)
-{
-    size_t tried[] = {0, w.size > 0 ? w.size - 1 : 0, w.size, w.size + 1, f->most};
-    for (int at_end = 0; at_end < 2; at_end++)
-        for (size_t i = 0; i < sizeof tried / sizeof *tried; i++)
-            one(f, id, in, n, tried[i], at_end, w);
-}
-
-/* ---- NULL with length 0 is nothing: as a pointer that is not NULL, and of length 0 */
-
-static void nothing(const Call *f, uint8_t id, const uint8_t *in, size_t n, Want w)
-{
-    uint8_t *src = in_area + SPAN - n;
-    about = f->name;
-    if (n > 0)
-        memcpy(src, in, n);
-    memset(out_area, 0xa5, SPAN);
-    for (int i = 0; i < (n == 0 ? 2 : 1); i++, src = NULL) {
-        Want short_of = w.bytes != NULL && w.size > 0 ? refusal(22, w.size, 0) : w;
-        check(f->fill(id, src, n, out_area + SPAN, 0) == short_of.number, "number, no room");
-        check(f->fill(id, src, n, NULL, 0) == short_of.number, "number, NULL for the buffer");
-        numbers(f, id, src, n, 0, short_of);
-        check(f->fill(id, src, n, out_area, SPAN / f->unit) == w.number, "number, NULL for the input");
-        numbers(f, id, src, n, SPAN / f->unit, w);
-        if (w.bytes != NULL)
-            check(memcmp(out_area, w.bytes, f->unit * w.size) == 0, "bytes, NULL for the input");
-    }
-}
+#include "tried.h"
 
 static void nothings(void)
 {
@@ -143,6 +43,12 @@ static void nothings(void)
     nothing(&READ, 0, empty0, 6, result(seven, 0));
     nothing(&READ, 5, raw5, 4, result(seven, 0));
     nothing(&READ, 3, (const uint8_t[]){0, 4, 2, 3, 0, 0}, 6, result(seven, 0));
+    nothing(&TO_1, 0, NULL, 0, refusal(23, 0, 0));
+    nothing(&TO_2, 0, NULL, 0, refusal(23, 0, 0));
+    nothing(&TO_1, 0, empty0, 6, result(empty0, 6));
+    nothing(&TO_2, 0, empty0, 6, result((const uint8_t[]){0, 4, 2, 0, 0, 0}, 6));
+    nothing(&TO_1, 5, (const uint8_t[]){0, 2, 2, 5}, 4, result(raw5, 4));
+    nothing(&TO_2, 5, (const uint8_t[]){0, 2, 2, 5}, 4, result((const uint8_t[]){0, 2, 2, 5}, 4));
 }
 
 /* ---- ledgers that no body has; the places are counted on document 01's widths */
@@ -188,37 +94,77 @@ static const struct {
     {"001a0104" "01" "00" "00" "00" "0000" "00000000" "0001" "00000007" "00" "00" "00" "00" "00" "02" "0000", 25, 25},
 };
 
+/* a fault of a ledger's own: the reader gives it, and so do the calls for either edition */
+static void own_fault(const uint8_t *ledger, size_t n, Want w)
+{
+    rooms(&READ, 0, ledger, n, w);
+    rooms(&TO_1, 0, ledger, n, w);
+    rooms(&TO_2, 0, ledger, n, w);
+}
+
 static void damaged_ledgers(void)
 {
     static uint8_t ledger[SPAN];
     for (size_t i = 0; i < sizeof damaged / sizeof *damaged; i++) {
         line = i;
         size_t n = unhex(damaged[i].ledger, ledger);
-        rooms(&READ, 0, ledger, n, refusal(damaged[i].number, damaged[i].place, 0));
+        own_fault(ledger, n, refusal(damaged[i].number, damaged[i].place, 0));
     }
 }
 
-/* so many plans of mode 0 and zeros: 51 bytes each in the ledger, 31 in the plain body, where plan_length is 25 */
+/* the ledgers that a table has in edition 1 and in edition 2, with nothing lost by either way */
+static void both_ways(uint8_t id, const uint8_t *first, size_t n, const uint8_t *second, size_t m)
+{
+    rooms(&TO_2, id, first, n, result(second, m));
+    rooms(&TO_1, id, second, m, result(first, n));
+    rooms(&TO_1, id, first, n, result(first, n));
+    rooms(&TO_2, id, second, m, result(second, m));
+}
+
+/* a ledger's front: its length, edition, id, and number of entries */
+static void front(uint8_t *ledger, size_t n, uint8_t edition, uint8_t id, size_t count)
+{
+    memset(ledger, 0, n);
+    ledger[0] = (uint8_t)((n - 2) >> 8), ledger[1] = (uint8_t)(n - 2), ledger[2] = edition, ledger[3] = id;
+    ledger[4] = (uint8_t)(count >> 8), ledger[5] = (uint8_t)count;
+}
+
+/* so many plans of mode 0 and zeros: 31 bytes each in the plain body, where plan_length is 25, 51 in the ledger, and 55
+ * in that of edition 2. With a plan_length of 26 the last one ends past the data there, and 29 has its index */
 static void plans(size_t count)
 {
-    static uint8_t ledger[SPAN], plain[SPAN];
-    size_t n = 6 + 51 * count, k = 31 * count;
-    memset(ledger, 0, n);
+    static uint8_t ledger[SPAN], second[SPAN], plain[SPAN];
+    size_t n = 6 + 51 * count, m = 6 + 55 * count, k = 31 * count;
+    Want too_long = refusal(26, k, 4096);
+    front(ledger, n, 1, 3, count);
+    front(second, m, 2, 3, count);
     memset(plain, 0, k);
-    ledger[0] = (uint8_t)((n - 2) >> 8), ledger[1] = (uint8_t)(n - 2), ledger[2] = 1, ledger[3] = 3;
-    ledger[4] = (uint8_t)(count >> 8), ledger[5] = (uint8_t)count;
     for (size_t i = 0; i < count; i++)
-        plain[31 * i + 5] = 25;
-    rooms(&READ, 3, ledger, n, k > 4096 ? refusal(26, k, 4096) : result(plain, k));
+        second[55 * i + 12] = plain[31 * i + 5] = 25;
+    if (k > 4096) {
+        own_fault(ledger, n, too_long);
+        own_fault(second, m, too_long);
+    } else {
+        rooms(&READ, 3, ledger, n, result(plain, k));
+        rooms(&READ, 3, second, m, result(plain, k));
+        both_ways(3, ledger, n, second, m);
+    }
+    second[55 * (count - 1) + 12] = 26;
+    rooms(&TO_1, 3, second, m, k > 4096 ? too_long : refusal(29, count - 1, 0));
+    rooms(&TO_2, 3, second, m, k > 4096 ? too_long : result(second, m));
 }
 
 /* plain bodies of 4,096 bytes and of one more; of 4,092 and 4,123 */
 static void long_ledgers(void)
 {
-    static uint8_t ledger[4 + 4097] = {0x10, 0x02, 1, 9};
+    static uint8_t ledger[4 + 4097] = {0x10, 0x02, 1, 9}, second[4 + 4096] = {0x10, 0x02, 2, 9};
     rooms(&READ, 9, ledger, 4 + 4096, result(ledger + 4, 4096));
+    both_ways(9, ledger, 4 + 4096, second, 4 + 4096);
     ledger[1] = 3;
-    rooms(&READ, 9, ledger, 4 + 4097, refusal(26, 4097, 4096));
+    own_fault(ledger, 4 + 4097, refusal(26, 4097, 4096));
+    ledger[2] = 2;
+    own_fault(ledger, 4 + 4097, refusal(26, 4097, 4096));
+    plans(1);
     plans(132);
     plans(133);
 }
@@ -300,24 +246,7 @@ static void stored(const char *body_line, const char *ledger_line, const char *p
     rooms(&READ, id, ledger, m, refusal(24, 2, 0));
 }
 
-/* ---- edition 2: answers stand behind a space, a refusal with commas, `-` for no bytes */
-
-static Want answer_of(const char *text, uint8_t *bytes)
-{
-    Want w = {NULL, 0, 0, 0, 0};
-    if (sscanf(text, "R,%zu,%zu,%zu", &w.number, &w.need, &w.have) == 3)
-        return w;
-    check(*text != 'R', "a refusal of a list of edition 2");
-    return result(bytes, unhex(text, bytes));
-}
-
-/* the word behind a space */
-static const char *behind(const char *text)
-{
-    const char *p = strchr(text, ' ');
-    check(p != NULL, "a word is missing");
-    return p == NULL ? "" : p + 1;
-}
+/* ---- edition 2 */
 
 /* a body, its ledger in edition 2, and its kept body */
 static void edition_2(const char *text)
@@ -341,7 +270,12 @@ static void ledger_2(const char *text)
     static uint8_t ledger[10000], given[10000];
     size_t n = unhex(text, ledger);
     Want w = answer_of(behind(text), given);
-    rooms(&READ, given[0], ledger, n, w.bytes == NULL ? w : result(given + 1, w.size - 1));
+    if (w.bytes == NULL) {
+        own_fault(ledger, n, w);
+        return;
+    }
+    rooms(&READ, given[0], ledger, n, result(given + 1, w.size - 1));
+    rooms(ledger[2] == 1 ? &TO_1 : &TO_2, given[0], ledger, n, result(ledger, n));
 }
 
 /* a ledger from before S-23, the table id with the body that it gives, and how every call refuses that body now */
@@ -356,20 +290,33 @@ static void stored_before(const char *text)
         rooms(calls[i], given[0], given + 1, body.size - 1, w);
 }
 
-static void lines_of(FILE *file, void (*tried)(const char *), unsigned long least)
+/* ---- S-19: a ledger, or none, with what it gives in edition 1, and what in edition 2 */
+
+static void converted(const char *text)
 {
-    static char text[40000];
-    for (line = 0; fgets(text, sizeof text, file) != NULL; tried(text))
-        line++;
-    check(line >= least, "fewer lines than there were");
+    static uint8_t ledger[10000], first[10000], second[10000];
+    size_t n = unhex(text, ledger);
+    Want w1 = answer_of(behind(text), first), w2 = answer_of(behind(behind(text)), second);
+    if (w1.bytes != NULL && w2.bytes != NULL) {
+        /* the ledger itself is one of the two; each is tried, so the other goes back to it */
+        check(memcmp(ledger, ledger[2] == 1 ? first : second, n) == 0, "a ledger of a list is not copied");
+        both_ways(ledger[3], first, w1.size, second, w2.size);
+    } else if (w2.bytes != NULL) {
+        check(w1.number == 29 && w2.size == n && memcmp(ledger, second, n) == 0, "a refusal by 29");
+        rooms(&TO_1, ledger[3], ledger, n, w1);
+        rooms(&TO_2, ledger[3], ledger, n, w2);
+    } else {
+        check(w1.number == w2.number && w1.need == w2.need && w1.have == w2.have, "a fault of a ledger's own");
+        own_fault(ledger, n, w1);
+    }
 }
 
 int main(int argc, char **argv)
 {
     static char text[4][20000];
-    FILE *file[7];
-    for (int i = 0; i < 7; i++)
-        if (argc != 8 || (file[i] = fopen(argv[i + 1], "r")) == NULL)
+    FILE *file[8];
+    for (int i = 0; i < 8; i++)
+        if (argc != 9 || (file[i] = fopen(argv[i + 1], "r")) == NULL)
             return 2;
     in_area = fenced(SPAN);
     out_area = fenced(SPAN);
@@ -380,6 +327,7 @@ int main(int argc, char **argv)
     lines_of(file[4], edition_2, 400);
     lines_of(file[5], ledger_2, 700);
     lines_of(file[6], stored_before, 300);
+    lines_of(file[7], converted, 600);
     line = 0;
     while (fgets(text[0], sizeof text[0], file[0])) {
         for (int i = 1; i < 4; i++)

@@ -8,12 +8,16 @@
  * batch back      a line is a table id and a body; its ledger in edition 1 is read back, the answer is as that of plain
  * batch back-2    the same in edition 2; the answer is as that of kept
  * batch read      a line is a ledger; the answer is the table id (two digits) and its body
+ * batch to-1      a line is a ledger; the answer is the ledger in edition 1
+ * batch to-2      the same in edition 2
+ * batch to-1-2    a line is a ledger; it goes to edition 1, and the result to edition 2
+ * batch to-2-1    the same the other way round
  * batch ids [N]   a line is a table id and a body; the answer is 'ids' and the entries' ids, in a buffer of N (4,096)
  *
- * A refusal is 'R number need have'; an empty line gives 'no input', but is an empty ledger to read. Input and buffer
- * end at unreadable pages. A result is asked for with just enough room, and with a unit less, which 22 must refuse; what
- * stands outside the result, and all of the buffer after a refusal, must be kept. Exit 1 where a call does not hold to
- * this or its further calls do not fit it, 2 on bad hexadecimal or a bad argument. */
+ * A refusal is 'R number need have'; an empty line gives 'no input', but is an empty ledger where a line is a ledger.
+ * Input and buffer end at unreadable pages. A result is asked for with just enough room, and with a unit less, which 22
+ * must refuse; what stands outside the result, and all of the buffer after a refusal, must be kept. Exit 1 where a call
+ * does not hold to this or its further calls do not fit it, 2 on bad hexadecimal or a bad argument. */
 #define _DEFAULT_SOURCE
 #include "../c/calls.h"
 
@@ -109,40 +113,41 @@ static void show_ids(const uint8_t *bytes, size_t count) {
     putchar('\n');
 }
 
-/* A ledger stands where a body did, and is read back under the id that it had. */
-static const uint8_t *read_back(uint8_t id, const uint8_t *ledger, size_t *size) {
+/* A ledger stands where a line's bytes did, and is handed to a second call under the id that it had. */
+static const uint8_t *handed_on(const Call *f, uint8_t id, const uint8_t *ledger, size_t *size) {
     size_t n = *size;
     memcpy(in_area + LONGEST - n, ledger, n);
-    return result_of(&READ, id, in_area + LONGEST - n, n, READ.most, size);
+    return result_of(f, id, in_area + LONGEST - n, n, f->most, size);
 }
 
-/* What a word asks for. */
+/* What a word asks for: a call, and one that takes its result, or none. */
 typedef struct {
     const char *word;
-    const Call *call;
-    int back;
+    const Call *call, *then;
 } Way;
 
-static const Way WAYS[] = {{"write", &WRITE, 0}, {"write-2", &WRITE_2, 0}, {"plain", &PLAIN, 0}, {"kept", &KEPT, 0},
-                           {"back", &WRITE, 1}, {"back-2", &WRITE_2, 1}, {"read", &READ, 0}, {"ids", &IDS, 0}};
+static const Way WAYS[] = {{"write", &WRITE, NULL}, {"write-2", &WRITE_2, NULL}, {"plain", &PLAIN, NULL},
+                           {"kept", &KEPT, NULL}, {"back", &WRITE, &READ}, {"back-2", &WRITE_2, &READ},
+                           {"read", &READ, NULL}, {"ids", &IDS, NULL}, {"to-1", &TO_1, NULL}, {"to-2", &TO_2, NULL},
+                           {"to-1-2", &TO_1, &TO_2}, {"to-2-1", &TO_2, &TO_1}};
 
 static void one_case(const Way *way, size_t n, size_t room) {
     const Call *f = way->call;
     const uint8_t *in = in_area + LONGEST - n;
-    size_t size, front = f != &READ;
+    size_t size, front = f != &READ && f != &TO_1 && f != &TO_2;
     if (front && n == 0) {
         puts("no input");
         return;
     }
     uint8_t id = front ? in[0] : n > 3 ? in[3] : 0;
     const uint8_t *bytes = result_of(f, id, in + front, n - front, room, &size);
-    if (bytes != NULL && way->back)
-        bytes = read_back(id, bytes, &size);
+    if (bytes != NULL && way->then != NULL)
+        bytes = handed_on(way->then, id, bytes, &size);
     if (bytes == NULL) return;
     char head[4] = "";
     if (f == &READ)
         snprintf(head, sizeof head, "%02x", id);
-    else if (size == 0 && (way->back || f == &PLAIN || f == &KEPT))
+    else if (size == 0 && (way->then == &READ || f == &PLAIN || f == &KEPT))
         strcpy(head, "-");
     if (f == &IDS) show_ids(bytes, size);
     else show(head, bytes, size);
@@ -157,7 +162,7 @@ int main(int argc, char **argv) {
     size_t room = argc == 3 ? strtoul(argv[2], &end, 10) : way != NULL ? way->call->most : 0;
     int is_ids = way != NULL && way->call == &IDS;
     if (way == NULL || argc > 2 + is_ids || *end != '\0' || end == argv[argc - 1] || room > way->call->most) {
-        fputs("use: batch write|write-2|plain|kept|back|back-2|read|ids [N] < cases\n", stderr);
+        fputs("use: batch write|write-2|plain|kept|back|back-2|read|to-1|to-2|to-1-2|to-2-1|ids [N] < cases\n", stderr);
         return 2;
     }
     in_area = fenced(LONGEST);

@@ -1,9 +1,11 @@
 // What the calls answer to a buffer's length alone: the result's length is enough for that.
 ghost use Rattle.std.specs.Prelude.{◌≡◌};
 ghost use Rattle.format.specs.Calls.{write_answer, read_answer};
+ghost use Rattle.format.specs.Convert.{convert_answer};
 ghost use Rattle.plain_body.specs.Bodies.{body_answer};
 
 use format::{Edition, Output, Refusal, fitted};
+use ledger_converter::convert_measure;
 use ledger_reader::ledger_measure;
 use ledger_writer::ledger_size;
 use plain_body::edition_measure;
@@ -39,5 +41,13 @@ pub fn body_answer(
     ensures { result ≡ body_answer edition table_id body.now room }
 {
     let measure = edition_measure(edition, table_id, body)?;
+    fitted(measure.table_id, measure.length, room)
+}
+
+// What the call for a ledger in an edition answers with a buffer of so many bytes.
+pub fn convert_answer(edition: Edition, ledger: &[u8], room: usize) -> Result<Output, Refusal>
+    ensures { result ≡ convert_answer edition ledger.now room }
+{
+    let measure = convert_measure(edition, ledger)?;
     fitted(measure.table_id, measure.length, room)
 }
