@@ -67,7 +67,8 @@ module _ (ed : Edition) (l : List ℕ) where
 
   -- a converted ledger that was written
   pub sent_converted : (place : ℕ) (out left : List ℕ) {a : Result Output Refusal} {o : Output}
-      (old new report : Option (List ℕ)) → a ≡ convert_answer ed l (length out) → left ≡ convert_left ed l out → a ≡ Ok o
+      (old new report : Option (List ℕ)) → a ≡ convert_answer ed l (length out) → left ≡ convert_left ed l out
+      → a ≡ Ok o
       → Appends old new (take o.length left) → Sent {E = Unit {0}} ed place l old new report report (Ok true)
   unfolding written reported is_empty
   sent_converted place out left {o = o} old new report e w d s =
@@ -109,12 +110,14 @@ placed_some place line = some_byte (decimal place) line 32
 -- a refusal that was reported
 pub sent_refused : (ed : Edition) (l : List ℕ) (place : ℕ) {a : Result Output Refusal} {f : Refusal}
     {line line' text text' : List ℕ} {r r' : Option ℕ} {n n' : ℕ} (output old new : Option (List ℕ)) (out : List ℕ)
-    → Below 256 l → 8198 ≤ length out → a ≡ convert_answer ed l (length out) → a ≡ Err f → 65 ≤ length line → 86 ≤ length text
+    → Below 256 l → 8198 ≤ length out → a ≡ convert_answer ed l (length out) → a ≡ Err f
+    → 65 ≤ length line → 86 ≤ length text
     → Stored (refusal_line (fault_number f.fault) f.need f.have) line line' r → n ≡ unwrap_or r 0
     → Stored (placed place (take n line')) text text' r' → n' ≡ unwrap_or r' 0
     → Appends old new (take n' text') → Sent {E = Unit {0}} ed place l output output old new (Ok false)
 unfolding written reported
-sent_refused ed l place {f = f} {line = line} {line'} {text} {text'} {n = n} {n'} output old new out b k e d p q s u s' u' w =
+sent_refused ed l place {f = f} {line = line} {line'} {text} {text'} {n = n} {n'} output old new out b k e d p q s u s'
+    u' w =
     let c : converted ed l ≡ refused f.fault f.need f.have = own_refusal ed l b (length out) k (sym e ∙ d) in
     let first : List ℕ = refusal_line (fault_number f.fault) f.need f.have in
     let most = refusal_most (fault_number f.fault) f.need f.have in

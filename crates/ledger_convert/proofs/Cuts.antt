@@ -67,7 +67,8 @@ unfolding ledgers_in cut
 last_ledger [] h k = absurd (omega arith)
 last_ledger (x ∷ l) h k =
     let size : ℕ = size_in_front (x ∷ l) in
-    rw (take_all size (x ∷ l) k, drop_all size (x ∷ l) k) (ap (λ (ls : List (List ℕ)). (x ∷ l) ∷ ls) (cut_nil (length l)))
+    rw (take_all size (x ∷ l) k, drop_all size (x ∷ l) k)
+    (ap (λ (ls : List (List ℕ)). (x ∷ l) ∷ ls) (cut_nil (length l)))
 
 -- a whole one in front of others
 pub first_ledger : (l ys : List ℕ) → length l ≡ size_in_front l → ledgers_in (l ++ ys) ≡ l ∷ ledgers_in ys
@@ -78,7 +79,8 @@ first_ledger (x ∷ l) ys h =
     let same : size_in_front ((x ∷ l) ++ ys) ≡ size_in_front (x ∷ l) = size_append (x ∷ l) ys (omega (arith, two)) in
     let long = length-append l ys in
     rw (same, take_at (x ∷ l) ys (size_in_front (x ∷ l)) h, drop_at (x ∷ l) ys (size_in_front (x ∷ l)) h)
-    (ap (λ (ls : List (List ℕ)). (x ∷ l) ∷ ls) (cut_enough (length (l ++ ys)) (length ys) ys (omega (arith, long)) (omega arith)))
+    (ap (λ (ls : List (List ℕ)). (x ∷ l) ∷ ls)
+    (cut_enough (length (l ++ ys)) (length ys) ys (omega (arith, long)) (omega arith)))
 
 -- bytes that end with a whole ledger: what stands behind them is cut as if it stood alone
 abbrev pub Closed : List ℕ → Type 0
@@ -98,7 +100,8 @@ closed_more xs l c h ys =
     let one : ledgers_in (xs ++ l) ≡ ledgers_in xs ++ (l ∷ []) = one_more xs l c (omega (arith, two)) (omega arith) in
     let a = ap ledgers_in (append_assoc xs l ys) ∙ c (l ++ ys)
     ∙ ap (λ (ls : List (List ℕ)). ledgers_in xs ++ ls) (first_ledger l ys h) in
-    let b = ap (λ (ls : List (List ℕ)). ls ++ ledgers_in ys) one ∙ append_assoc (ledgers_in xs) (l ∷ []) (ledgers_in ys) in
+    let b = ap (λ (ls : List (List ℕ)). ls ++ ledgers_in ys) one
+    ∙ append_assoc (ledgers_in xs) (l ∷ []) (ledgers_in ys) in
     a ∙ sym b
 
 -- ---- nothing is lost

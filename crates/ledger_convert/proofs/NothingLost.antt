@@ -22,7 +22,8 @@ use Rattle.format.proofs.DigitLaws.{below_take, below_drop}
 use Rattle.format.proofs.Demand.{passed}
 use Rattle.format.proofs.ConvertLaws.{accepted_conversion}
 use Rattle.ledger_text.specs.Text.{refusal_line, placed}
-use Rattle.ledger_convert.specs.Archive.{size_in_front, cut, ledgers_in, written, reported, outputs, archive_output, archive_report, is_empty}
+use Rattle.ledger_convert.specs.Archive.{size_in_front, cut, ledgers_in, written, reported, outputs}
+use Rattle.ledger_convert.specs.Archive.{archive_output, archive_report, is_empty}
 use Rattle.ledger_convert.specs.Streams.{Ran}
 use Rattle.ledger_convert.proofs.Cuts.{first_ledger}
 use Rattle.ledger_convert.proofs.Conversions.{placed_some}
@@ -109,7 +110,8 @@ outputs_cut ed (l ∷ ls) h = go (converted ed l) refl (outputs_cut ed ls h.1)
     go (refused f y z) e k = rw e k
 
 -- cut as any archive, the output has just the converted ledgers, in their order
-pub output_archive : (ed : Edition) (xs : List ℕ) → Below 256 xs → ledgers_in (archive_output ed xs) ≡ moved ed (ledgers_in xs)
+pub output_archive : (ed : Edition) (xs : List ℕ) → Below 256 xs
+    → ledgers_in (archive_output ed xs) ≡ moved ed (ledgers_in xs)
 unfolding archive_output ledgers_in
 output_archive ed xs h = outputs_cut ed (cut (length xs) xs) (cut_bytes (length xs) xs h)
 

@@ -21,7 +21,8 @@ took_more : (buf part after : List ℕ) (at n : ℕ) → at ≤ length buf → n
 took_more buf part after at n h k =
     let long = length-take-le at buf h in
     take-add at n (take at buf ++ (part ++ after))
-    ∙ ap (λ (t : List ℕ). t ++ take n (drop at (take at buf ++ (part ++ after)))) (take_at (take at buf) (part ++ after) at long)
+    ∙ ap (λ (t : List ℕ). t ++ take n (drop at (take at buf ++ (part ++ after))))
+    (take_at (take at buf) (part ++ after) at long)
     ∙ ap (λ (t : List ℕ). take at buf ++ take n t) (drop_at (take at buf) (part ++ after) at long)
     ∙ ap (λ (t : List ℕ). take at buf ++ t) (take-append-le n part after k)
 
@@ -70,7 +71,8 @@ fetched_long old mid new part part' rest after n size h p s l f =
     ap size_in_front all ∙ size_append part (take n part') (omega (arith, h)) ∙ sym s in
     let started : Consumes old mid part = subst (Consumes old mid) (take_all 2 part (omega (arith, h))) p in
     let long : length whole ≡ 2 + (length part' + length after) =
-    length-append (take 2 (part ++ rest)) (part' ++ after) ∙ omega (arith, ap length front, h, length-append part' after) in (
+    length-append (take 2 (part ++ rest)) (part' ++ after)
+    ∙ omega (arith, ap length front, h, length-append part' after) in (
       omega (arith, long, f.0),
       subst (Consumes old new) (sym all) (Consumes-trans old mid new part (take n part') started f.1),
       omega (arith, same, f.0, l, s, two),

@@ -31,8 +31,8 @@ pub further : (mid new : Option (List ℕ)) (xs buffer : List ℕ) (n place : �
 further mid new xs buffer n place far f =
     length-append xs (take n buffer) ∙ omega (arith, far, length-take-le n buffer f.0)
 
-module _ (ed : Edition) (old mid new out out' out'' report report' report'' : Option (List ℕ)) (xs buffer : List ℕ) (n place : ℕ)
-    (all b : Bool) (far : length xs ≡ place) (c : Closed xs) (f : Fetched {E = Unit {0}} mid new buffer (Ok n)) where
+module _ (ed : Edition) (old mid new out out' out'' report report' report'' : Option (List ℕ)) (xs buffer : List ℕ)
+    (n place : ℕ) (all b : Bool) (far : length xs ≡ place) (c : Closed xs) (f : Fetched {E = Unit {0}} mid new buffer (Ok n)) where
   -- a ledger came, and was told of
   pub stepped : Consumes old mid xs → Told ed xs out out' report report' → all ≡ is_empty (archive_report ed xs)
       → (n ≡ 0 → ⊥) → Sent {E = Unit {0}} ed place (take n buffer) out' out'' report' report'' (Ok b)

@@ -12,7 +12,8 @@ use Rattle.std.specs.Io.KnownBytes.{Appends}
 use Rattle.std.proofs.KnownBytes.{Appends-nil, Appends-trans}
 use Rattle.format.specs.declared.Edition.{Edition}
 use Rattle.format.specs.Convert.{converted}
-use Rattle.ledger_convert.specs.Archive.{size_in_front, ledgers_in, written, reported, outputs, reports, archive_output, archive_report, is_empty, cut}
+use Rattle.ledger_convert.specs.Archive.{size_in_front, cut, ledgers_in, written, reported, outputs, reports}
+use Rattle.ledger_convert.specs.Archive.{archive_output, archive_report, is_empty}
 use Rattle.ledger_convert.specs.Streams.{Sent, Told}
 use Rattle.ledger_convert.proofs.Cuts.{Closed, one_more, joined, joined_ledgers}
 

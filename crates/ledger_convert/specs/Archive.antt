@@ -1,6 +1,7 @@
 -- An archive, ledgers one after the other, and what comes of it: the converted ledgers, and a report on each other one.
 -- Assumes nothing: these are definitions.
-use Rattle.std.specs.Prelude.{ℕ, zero, suc, ◌+◌, Bool, true, false, cond, eqb, List, [], ◌∷◌, ◌++◌, length, take, drop, Option, Some, None}
+use Rattle.std.specs.Prelude.{ℕ, zero, suc, ◌+◌, Bool, true, false, cond, eqb, List, [], ◌∷◌, ◌++◌, length, take, drop}
+use Rattle.std.specs.Prelude.{Option, Some, None}
 use Prim.Native.Char.{code}
 use Rattle.format.specs.Digits.{value}
 use Rattle.format.specs.Refusals.{fault_number}

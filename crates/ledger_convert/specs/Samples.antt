@@ -5,11 +5,13 @@ use Rattle.format.specs.Digits.{digits, value, bits_of, bytes_of}
 use Rattle.format.specs.Tables.{position}
 use Rattle.format.specs.Body.{laid}
 use Rattle.format.specs.Ledger.{ledger, read_ledger}
-use Rattle.format.specs.Whole.{entries_of, laids, ledgers, body_of, content_of, ledger_of, counted, content_as, ledger_read}
+use Rattle.format.specs.Whole.{entries_of, laids, ledgers, body_of, content_of, ledger_of}
+use Rattle.format.specs.Whole.{counted, content_as, ledger_read}
 use Rattle.format.specs.declared.Edition.TheVariants.{First, Second}
 use Rattle.format.specs.Convert.{exact, all_exact, converted}
 use Rattle.ledger_text.specs.Text.{ascii, digits_before, decimal, spaced, refusal_line, placed}
-use Rattle.ledger_convert.specs.Archive.{size_in_front, cut, ledgers_in, written, reported, outputs, reports, archive_output, archive_report}
+use Rattle.ledger_convert.specs.Archive.{size_in_front, cut, ledgers_in, written, reported, outputs, reports}
+use Rattle.ledger_convert.specs.Archive.{archive_output, archive_report}
 
 -- no satellites in an edition
 abbrev none_in : ℕ → List ℕ

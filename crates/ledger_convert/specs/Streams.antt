@@ -9,9 +9,10 @@ use Rattle.ledger_convert.specs.Archive.{size_in_front, written, reported, archi
 use Rattle.ledger_convert.specs.declared.Stop.{Stop}
 use Rattle.ledger_convert.specs.declared.Stop.TheVariants.{Input, Output, TooMany}
 
--- the buffer's first bytes were read, and all of it is filled unless the input ended; at an error some bytes are gone
+-- the first n bytes were read, and the whole buffer is filled unless the input ended; at an error some bytes are gone
 abbrev pub Filled : {E : Type 0} → Option (List ℕ) → Option (List ℕ) → List ℕ → Result ℕ E → Type 0
-Filled old new buffer (Ok n) = (n ≤ length buffer) × Consumes old new (take n buffer) × (n < length buffer → IsAtEnd new)
+Filled old new buffer (Ok n) =
+    (n ≤ length buffer) × Consumes old new (take n buffer) × (n < length buffer → IsAtEnd new)
 Filled old new buffer (Err e) = (more : List ℕ) × Consumes old new more
 
 -- the first n bytes are the next ledger, fewer than it takes only where the input ended

@@ -1,7 +1,6 @@
 // Moves the ledgers of an archive, one after the other on standard input, to the edition that the one argument names,
-// `1` or `2`. Ledgers go to standard output. One that can't be converted goes there not at all: a line on standard error
-// has its place, the number of input bytes in front of it, and its refusal; the program goes on behind it and fails at
-// the end.
+// `1` or `2`. Ledgers go to standard output. One that can't be converted does not: a line on standard error has its
+// place, the number of input bytes in front of it, and its refusal; the program goes on behind it, and fails at the end.
 #![tactic(auto)]
 
 ghost use Rattle.std.specs.Prelude.{◌≡◌, ◌≤◌, length};
@@ -103,8 +102,8 @@ fn convert_one<O: Write, E: Write>(
     output: &mut O,
     report: &mut E,
 ) -> io::Result<bool>
-    ensures { Sent edition place ledger.now (O.contents output.old) (O.contents output.new)
-        (E.contents report.old) (E.contents report.new) result }
+    ensures { Sent edition place ledger.now
+        (O.contents output.old) (O.contents output.new) (E.contents report.old) (E.contents report.new) result }
 {
     let mut out = [0u8; 8198];
     match ledger_convert(edition, ledger, &mut out) {
@@ -130,8 +129,8 @@ fn convert_all<R: Read, O: Write, E: Write>(
     output: &mut O,
     report: &mut E,
 ) -> Result<bool, Stop>
-    ensures { Ran edition (R.remaining input.old) (R.remaining input.new) (O.contents output.old) (O.contents output.new)
-        (E.contents report.old) (E.contents report.new) result }
+    ensures { Ran edition (R.remaining input.old) (R.remaining input.new)
+        (O.contents output.old) (O.contents output.new) (E.contents report.old) (E.contents report.new) result }
 {
     let mut ledger = [0u8; LEDGER_MOST];
     let mut place = 0;

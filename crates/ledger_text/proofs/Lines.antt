@@ -15,7 +15,8 @@ use Rattle.format.specs.Digits.{Below, splice}
 use Rattle.format.specs.Calls.{left}
 use Rattle.format.proofs.DigitLaws.{below_of}
 use Rattle.bits.proofs.Splices.{length_splice, splice_splice, set_one}
-use Rattle.ledger_text.specs.Text.{hex_digit, hex_text, hex_line, decimal, digits_before, spaced, refusal_line, placed, Stored}
+use Rattle.ledger_text.specs.Text.{hex_digit, hex_text, hex_line, decimal, digits_before, spaced, refusal_line}
+use Rattle.ledger_text.specs.Text.{placed, Stored}
 
 -- ---- bytes in hexadecimal
 
@@ -179,8 +180,10 @@ placed_stored place line front l o o' n w k h p r =
     let first : m ≡ splice l 0 front = rw (p, k) (in_front l front) in
     let room : 0 + length front ≤ length l = omega arith in
     let start : n ≡ 0 + length front = omega arith in
-    let both : splice (splice l 0 front) n line ≡ splice l 0 (front ++ line) = splice_splice l 0 front line n start room in
-    let post : post_of n (n + length line - n) m ≡ drop (n + length line) m = Post-is n (n + length line) m (omega arith) in
+    let both : splice (splice l 0 front) n line ≡ splice l 0 (front ++ line) =
+    splice_splice l 0 front line n start room in
+    let post : post_of n (n + length line - n) m ≡ drop (n + length line) m =
+    Post-is n (n + length line) m (omega arith) in
     let ends : put_mid n (n + length line - n) m o' ≡ splice m n line =
     rw (post, r) (sym (append_assoc (take n m) line (drop (n + length line) m))) in
     let bytes = ends ∙ ap (λ (t : List ℕ). splice t n line) first ∙ both ∙ ap (splice l 0) w in

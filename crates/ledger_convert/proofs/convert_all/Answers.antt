@@ -52,6 +52,8 @@ loop-preserved g c =
     c.in-Ok-convert_one.converted s.3 s.1 c.in-Ok.ensures s.2 s.5 s.6 c.if-size-eq0.false c.in-Ok-convert_one.ensures in
     let far = further _ _ s.0 c.read_ledger.new.ledger c.in-Ok.size c.loop.place s.3 c.in-Ok.ensures in
     let long = length-take-le c.in-Ok.size c.read_ledger.new.ledger c.in-Ok.ensures.0 in
-    let whole : length l ≡ size_in_front l = omega (arith, long, c.in-Ok.ensures.2, c.size_in_front.ensures.is, c.if-size-size_in_front.false) in
-    let most : c.loop.place + c.in-Ok.size ≤ 65537 * (c.loop.counter + 1) = omega (arith, s.4, c.in-Ok.ensures.0, c.if-all.array_long) in
+    let whole : length l ≡ size_in_front l =
+    omega (arith, long, c.in-Ok.ensures.2, c.size_in_front.ensures.is, c.if-size-size_in_front.false) in
+    let most : c.loop.place + c.in-Ok.size ≤ 65537 * (c.loop.counter + 1) =
+    omega (arith, s.4, c.in-Ok.ensures.0, c.if-all.array_long) in
     (s.0 ++ l, closed_more s.0 l s.1 whole, e.0, far, most, e.1, all ∙ e.2)

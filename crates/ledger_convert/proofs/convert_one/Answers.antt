@@ -27,6 +27,8 @@ pub returns-in_ok-write_all-in-Err : goal.returns-in_ok-write_all-in-Err
 returns-in_ok-write_all-in-Err g c =
     let w = c.ledger_convert.ensures in
     let bytes = below_of 256 c.args.ledger.now (λ i. omega (arith, c.type_inv.ledger i)) in
-    sent_refused _ _ c.args.place _ _ _ (replicate 8198 0) bytes (omega arith) w.0 c.in-Err.is (omega arith) (omega arith)
-    (rw c.number.ensures at c.refusal_line.ensures) c.unwrap_or-size.ensures c.placed_line.ensures c.unwrap_or-end.ensures
+    sent_refused _ _ c.args.place _ _ _ (replicate 8198 0) bytes (omega arith) w.0 c.in-Err.is (omega arith)
+    (omega arith)
+    (rw c.number.ensures at c.refusal_line.ensures) c.unwrap_or-size.ensures
+    c.placed_line.ensures c.unwrap_or-end.ensures
     c.in_ok-write_all-in-Err.ensures.bytes

@@ -11,7 +11,8 @@ use Rattle.ledger_convert.specs.Archive.{edition_named}
 use Rattle.ledger_convert.proofs.edition_named.Goals as goal
 
 -- a word of one byte is that byte
-one_byte : (word : List ℕ) → 1 ≤ length word → length word < 2 → edition_named word ≡ edition_named (get_or word 0 0 ∷ [])
+one_byte : (word : List ℕ) → 1 ≤ length word → length word < 2
+    → edition_named word ≡ edition_named (get_or word 0 0 ∷ [])
 one_byte [] h k = absurd (omega arith)
 one_byte (c ∷ []) h k = refl
 one_byte (c ∷ d ∷ word) h k = absurd (omega arith)

@@ -9,8 +9,8 @@ use Rattle.ledger_convert.proofs.read_ledger.Goals as goal
 
 pub returns-then-head-lt2 : goal.returns-then-head-lt2
 returns-then-head-lt2 g c =
-    fetched_short _ _ c.read_full.new.buffer _ c.in_ok-head.head (omega (arith, c.read_full.auto.buffer)) c.if-head-lt2.true
-    c.in_ok-head.ensures.filled
+    fetched_short _ _ c.read_full.new.buffer _ c.in_ok-head.head (omega (arith, c.read_full.auto.buffer))
+    c.if-head-lt2.true c.in_ok-head.ensures.filled
 
 pub slice_bounds-read_full-count : goal.slice_bounds-read_full-count
 slice_bounds-read_full-count g c = c.size_in_front-size.ensures.range.0
@@ -29,10 +29,12 @@ returns-in_err-rest g c =
 
 pub returns : goal.returns
 returns g c =
-    let two : c.in_ok-head.head ≡ 2 = omega (arith, c.in_ok-head.ensures.filled.0, c.read_full.auto.buffer, c.if-head-lt2.false) in
+    let two : c.in_ok-head.head ≡ 2 =
+    omega (arith, c.in_ok-head.ensures.filled.0, c.read_full.auto.buffer, c.if-head-lt2.false) in
     let part = c.read_full.new.buffer in
     let long : length part ≡ 2 = omega (arith, c.read_full.auto.buffer) in
     let size = c.size_in_front-size.ensures.is in
     fetched_long _ _ _ part c.read_full-2.new.buffer _ _ c.in_ok-rest.rest c.size_in_front-size.result long
-    (rw two at c.in_ok-head.ensures.filled.1) (rw (take_at part _ 2 long) at size) (omega (arith, c.read_full-2.auto.buffer))
+    (rw two at c.in_ok-head.ensures.filled.1) (rw (take_at part _ 2 long) at size)
+    (omega (arith, c.read_full-2.auto.buffer))
     c.in_ok-rest.ensures.filled

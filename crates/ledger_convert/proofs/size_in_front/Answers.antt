@@ -20,7 +20,8 @@ front bytes n known k e = ap (λ (m : ℕ). 2 + m) (e ∙ ap (value 256) (front_
 pub overflow_add-result : goal.overflow_add-result
 overflow_add-result c =
     let e = front c.args.bytes.now c.get_be.result c.min-known.result c.min-known.ensures c.get_be.ensures in
-    omega (arith, e, size_most c.args.bytes.now (below_of 256 c.args.bytes.now (λ i. omega (arith, c.type_inv.bytes i))))
+    let most = size_most c.args.bytes.now (below_of 256 c.args.bytes.now (λ i. omega (arith, c.type_inv.bytes i))) in
+    omega (arith, e, most)
 
 pub returns-clause-is : goal.returns-clause-is
 returns-clause-is c = front c.args.bytes.now c.get_be.result c.min-known.result c.min-known.ensures c.get_be.ensures

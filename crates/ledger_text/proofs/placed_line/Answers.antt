@@ -17,5 +17,5 @@ pub returns : goal.returns
 returns c =
     let digits = rw c.new-front.ensures at c.push_digits.ensures.text in
     let laid = placed_laid c.args.place c.args.line.now _ _ digits c.push.ensures.items in
-    placed_stored _ _ _ _ _ _ _ laid c.len-start.ensures.value (omega arith) (c.copy_from_slice.ensures.after ∙ c.deref.ensures.0)
-    c.copy_from_slice-2.ensures.after
+    placed_stored _ _ _ _ _ _ _ laid c.len-start.ensures.value (omega arith)
+    (c.copy_from_slice.ensures.after ∙ c.deref.ensures.0) c.copy_from_slice-2.ensures.after
