@@ -1,11 +1,12 @@
 -- That the library's texts are those of the definitions, and how a line is stored.
 -- Assumes nothing.
-use Prim.Native.Nat.{ℕ, zero, suc, ◌+◌, ◌*◌, ◌/◌, ◌%◌, ◌^◌, ◌≤◌, ◌<◌}
+use Prim.Native.Nat.{ℕ, zero, suc, ◌+◌, ◌-◌, ◌*◌, ◌/◌, ◌%◌, ◌^◌, ◌≤◌, ◌<◌}
 use mathlib.Core.Path.{◌≡◌, refl, sym, ap, ◌∙◌}
 use mathlib.Core.List.{List, [], ◌∷◌, ◌++◌, append-nil, append_assoc}
 use native.Mathlib.Omega.{arith}
 use borrow.Author.Tests.{le-leb, lt-leb}
-use lib.ListN.{length, drop, set, get_or, length-append}
+use lib.ListN.{length, take, drop, set, get_or, length-append}
+use borrow.Rule.Slice.PartMut.{post_of, put_mid, Post-is}
 use Rattle.std.specs.Prelude.{Option, Some, None, Result, Ok, Err, IsOk, OnOk, slice_index}
 use Rattle.std.specs.Fmt.{decimal as printed}
 use Rattle.std.proofs.lemmas.Fmt.{PrependsLastDigit, decimal_from_prepends, length-decimal-le}
@@ -14,7 +15,8 @@ use Rattle.format.specs.Digits.{Below, splice}
 use Rattle.format.specs.Calls.{left}
 use Rattle.format.proofs.DigitLaws.{below_of}
 use Rattle.bits.proofs.Splices.{length_splice, splice_splice, set_one}
-use Rattle.ledger_text.specs.Text.{hex_digit, hex_text, hex_line, decimal, digits_before, spaced, refusal_line, Stored}
+use Rattle.ledger_text.specs.Text.{hex_digit, hex_text, hex_line, decimal, digits_before, spaced, refusal_line}
+use Rattle.ledger_text.specs.Text.{placed, Stored}
 
 -- ---- bytes in hexadecimal
 
@@ -143,16 +145,47 @@ hex_stored r bytes l o b h ok laid =
     let long = hex_line_length bytes in
     stored_whole (hex_line bytes) l _ _ (omega (arith, long)) (ap Some (sym long)) (rw digits all)
 
--- what a number adds to a line
-pub number_added : {E : Type 0} (r : Result (Unit {0}) E) (n : ℕ) (line a digits out : List ℕ) → n < 2 ^ 64
-    → a ≡ line ++ (32 ∷ []) → digits ≡ printed n → IsOk r → OnOk r (out ≡ a ++ digits) → out ≡ line ++ spaced n
+-- what a number's digits add to a line, and a number behind a space
+pub digits_added : {E : Type 0} (r : Result (Unit {0}) E) (n : ℕ) (line text out : List ℕ) → n < 2 ^ 64
+    → text ≡ printed n → IsOk r → OnOk r (out ≡ line ++ text) → out ≡ line ++ decimal n
+digits_added r n line text out h q ok e = ok_then r ok e ∙ ap (λ (t : List ℕ). line ++ t) (q ∙ decimal_is n h)
+
+pub number_added : (n : ℕ) (line a out : List ℕ) → a ≡ line ++ (32 ∷ []) → out ≡ a ++ decimal n → out ≡ line ++ spaced n
 unfolding spaced
-number_added r n line a digits out h p q ok e =
-    let d = q ∙ decimal_is n h in
-    ok_then r ok e ∙ rw (p, d) (append_assoc line (32 ∷ []) (decimal n))
+number_added n line a out p e = e ∙ rw p (append_assoc line (32 ∷ []) (decimal n))
 
 -- a refusal's line, piece by piece
 pub refusal_laid : (number need have : ℕ) (first a b c line : List ℕ) → first ≡ 82 ∷ []
     → a ≡ first ++ spaced number → b ≡ a ++ spaced need → c ≡ b ++ spaced have → line ≡ c ++ (10 ∷ []) → line ≡ refusal_line number need have
 unfolding refusal_line
 refusal_laid number need have first a b c line f p q r s = rw (s, r, q, p, f) (simp append_assoc)
+
+-- a place, a space, and the line behind them
+pub placed_laid : (place : ℕ) (line a front : List ℕ) → a ≡ decimal place → front ≡ a ++ (32 ∷ [])
+    → front ++ line ≡ placed place line
+unfolding placed
+placed_laid place line a front d e = ap (λ (t : List ℕ). t ++ line) (e ∙ ap (λ (t : List ℕ). t ++ (32 ∷ [])) d)
+
+pub placed_length : (place : ℕ) (line front : List ℕ) → front ++ line ≡ placed place line
+    → length (placed place line) ≡ length front + length line
+placed_length place line front e = ap length (sym e) ∙ length-append front line
+
+-- two pieces, one behind the other, in a buffer that has room for both
+pub placed_stored : (place : ℕ) (line front l o o' : List ℕ) (n : ℕ) → front ++ line ≡ placed place line
+    → n ≡ length front → n + length line ≤ length l → o ≡ front → o' ≡ line
+    → Stored (placed place line) l (put_mid n (n + length line - n) (o ++ drop n l) o') (Some (n + length line))
+unfolding splice
+placed_stored place line front l o o' n w k h p r =
+    let m : List ℕ = o ++ drop n l in
+    let first : m ≡ splice l 0 front = rw (p, k) (in_front l front) in
+    let room : 0 + length front ≤ length l = omega arith in
+    let start : n ≡ 0 + length front = omega arith in
+    let both : splice (splice l 0 front) n line ≡ splice l 0 (front ++ line) =
+    splice_splice l 0 front line n start room in
+    let post : post_of n (n + length line - n) m ≡ drop (n + length line) m =
+    Post-is n (n + length line) m (omega arith) in
+    let ends : put_mid n (n + length line - n) m o' ≡ splice m n line =
+    rw (post, r) (sym (append_assoc (take n m) line (drop (n + length line) m))) in
+    let bytes = ends ∙ ap (λ (t : List ℕ). splice t n line) first ∙ both ∙ ap (splice l 0) w in
+    let long = placed_length place line front w in
+    stored_whole (placed place line) l _ _ (omega (arith, long)) (ap Some (omega (arith, long))) bytes

@@ -1,4 +1,4 @@
--- The program's lines as lists of ASCII codes: a byte string in hexadecimal, and a refusal.
+-- The programs' lines as lists of ASCII codes: a byte string in hexadecimal, a refusal, a line with its place.
 -- Assumes nothing: these are definitions.
 use Rattle.std.specs.Prelude.{ℕ, zero, suc, ◌+◌, ◌/◌, ◌%◌, ◌≡◌, cond, List, [], ◌∷◌, ◌++◌, ltb, leb, length}
 use Rattle.std.specs.Prelude.{Option, Some, None}
@@ -41,6 +41,10 @@ spaced n = ascii " " ++ decimal n
 -- `R`, three numbers each behind a space, a newline
 unfoldable pub refusal_line : ℕ → ℕ → ℕ → List ℕ
 refusal_line number need have = ascii "R" ++ spaced number ++ spaced need ++ spaced have ++ ascii "\n"
+
+-- a line with its place in front, and a space
+unfoldable pub placed : ℕ → List ℕ → List ℕ
+placed place line = decimal place ++ ascii " " ++ line
 
 -- A line stored at the start of a buffer that has room for it, and its length; in a shorter buffer nothing is stored.
 pub record Stored (line before after : List ℕ) (r : Option ℕ) : Type 0 where

@@ -1,8 +1,9 @@
-// The lines that the programs print: bytes in hexadecimal, and a refusal; stored in a buffer that the caller lends.
+// The lines that the programs print: bytes in hexadecimal, a refusal, and a line with its place in front; stored in a
+// buffer that the caller lends.
 #![tactic(auto)]
 
 ghost use Rattle.std.specs.Prelude.{◌≡◌, ◌+◌, ◌≤◌, ◌++◌, length};
-ghost use Rattle.ledger_text.specs.Text.{hex_line, refusal_line, spaced, Stored};
+ghost use Rattle.ledger_text.specs.Text.{decimal, hex_line, placed, refusal_line, spaced, Stored};
 
 use arrayvec::ArrayVec;
 use hex::encode_to_slice;
@@ -36,6 +37,17 @@ pub fn put_line(line: &[u8], out: &mut [u8]) -> Option<usize>
     Some(size)
 }
 
+// A number behind what there is of a line.
+fn push_digits(line: &mut ArrayVec<u8, REFUSAL_MOST>, n: usize)
+    requires { length line.old.items + 20 ≤ 65 }
+    ensures text { line.new.items ≡ line.old.items ++ decimal n }
+    ensures most { length line.new.items ≤ length line.old.items + 20 }
+{
+    let mut digits = Buffer::new();
+    // There is room for 20 digits.
+    let _ = line.try_extend_from_slice(digits.format(n).as_bytes());
+}
+
 // A space and a number behind what there is of a line.
 fn push_number(line: &mut ArrayVec<u8, REFUSAL_MOST>, n: usize)
     requires { length line.old.items + 21 ≤ 65 }
@@ -43,9 +55,7 @@ fn push_number(line: &mut ArrayVec<u8, REFUSAL_MOST>, n: usize)
     ensures most { length line.new.items ≤ length line.old.items + 21 }
 {
     line.push(b' ');
-    let mut digits = Buffer::new();
-    // There is room for 20 digits.
-    let _ = line.try_extend_from_slice(digits.format(n).as_bytes());
+    push_digits(line, n);
 }
 
 // `R`, the refusal's number, need and have behind a space each, and a newline, stored as a line; 65 bytes hold
@@ -60,4 +70,21 @@ pub fn refusal_line(number: u8, need: usize, have: usize, out: &mut [u8]) -> Opt
     push_number(&mut line, have);
     line.push(b'\n');
     put_line(&line, out)
+}
+
+// A line with a place and a space in front, stored as a line; they are 21 bytes at most.
+pub fn placed_line(place: usize, line: &[u8], out: &mut [u8]) -> Option<usize>
+    ensures { Stored (placed place line.now) out.old out.new result }
+{
+    let mut front = ArrayVec::new();
+    push_digits(&mut front, place);
+    front.push(b' ');
+    let start = front.len();
+    let size = start + line.len();
+    if size > out.len() {
+        return None;
+    }
+    out[..start].copy_from_slice(&front);
+    out[start..size].copy_from_slice(line);
+    Some(size)
 }
