@@ -4,3 +4,4 @@ pub mod Conversions
 pub mod Reading
 pub mod Steps
 pub mod NothingLost
+pub mod SamplesHold
