@@ -18,11 +18,12 @@ use Rattle.format.specs.declared.Fault.TheVariants.{BufferTooShort, PlanInexact}
 use Rattle.format.specs.declared.Edition.{Edition}
 use Rattle.format.specs.declared.Edition.TheVariants.{First, Second}
 use Rattle.format.specs.Whole.{Table, entries_of, Accepted, AcceptedBefore, body_of, kept_of, ledger_of, id_of, edition_of, ledger_read}
-use Rattle.format.specs.Calls.{done, number_of, answer, relaid, restored, Wrote, Gave}
+use Rattle.format.specs.Calls.{done, number_of, answer, Enough, relaid, restored, Wrote, Gave}
 use Rattle.format.specs.Convert.{exact, all_exact, lossless, converted, convert_answer, convert_left, Moved}
 use Rattle.format.proofs.ParseLaws.{cond_got, then_got}
 use Rattle.format.proofs.TableLaws.{fine_layout, form_of}
 use Rattle.format.proofs.Demand.{IsLedger, fine_then, accepted_good, accepted_before, body_again, ledger_all, ledger_length, ledger_again, id_of_lem}
+use Rattle.format.proofs.PlanlessLaws.{form_of_2}
 use Rattle.format.proofs.CallLaws.{refused_keeps, accepts_result, Given, result_given, accepted_wrote, wrote_accepted, gave_read}
 use Rattle.format.proofs.LedgerFaults.{AsLedger, ledger_faults}
 use Rattle.format.proofs.ConvertLaws.{Lost, fields_converted, read_body_accepted, Outcome, same_fields, loses, outcome, own_faults, accepted_conversion, result_id, result_edition, there_and_back, copied, to_second, to_first, same_body, result_stored, result_now, result_length}
@@ -154,6 +155,36 @@ to_first_exactly l room h = (there, back)
         × (length (ledger_of First (id_of l) t) ≤ room)
         → number_of (answer (id_of l) room (converted First l)) ≡ 0
     back r = rw ((to_first l r.0 h r.1).1 r.2, le-leb (length (ledger_of First (id_of l) r.0)) room r.3)
+
+-- the same by the body: what edition 2's writer left of it goes to edition 1, given room, exactly if the body's plain
+-- body and its kept body are the same
+pub to_first_same : {id : ℕ} {b out l : List ℕ} → id < 256 → Below 256 b → Below 256 l → Wrote Second id b out l
+    → (room : ℕ) → Enough room (converted First l)
+    → (number_of (convert_answer First l room) ≡ 0) ↔ (relaid First id b ≡ relaid Second id b)
+unfolding relaid
+to_first_same {id} {b} {out} {l} hi hb hl w room h = (there, back)
+  where
+    o : (t : Table) × Accepted id b t × (ledger_of Second id t ≡ l) × (length l ≤ length out)
+    o = wrote_accepted hi hb w
+
+    read : ledger_read l ≡ got o.0 []
+    read =
+        ap ledger_read (sym o.2) ∙ ledger_again Second (accepted_before o.1)
+        ∙ ap (λ (u : Table). got u []) (form_of_2 o.0)
+
+    there : number_of (convert_answer First l room) ≡ 0 → relaid First id b ≡ relaid Second id b
+    there a =
+        let r = (to_first_exactly l room hl).0 a in
+        let z : got r.0 [] ≡ got o.0 [] = sym r.1 ∙ read in
+        let y : r.0 ≡ o.0 = cc in
+        rw (o.1.reads) (ap (λ (x : List ℕ). got x []) (sym (rw y at r.2)))
+
+    back : relaid First id b ≡ relaid Second id b → number_of (convert_answer First l room) ≡ 0
+    back q =
+        let z : got (body_of First o.0) [] ≡ got (kept_of o.0) [] = rw (o.1.reads) at q in
+        let k : kept_of o.0 ≡ body_of First o.0 = cc in
+        let n : length (ledger_of First (id_of l) o.0) ≤ room = rw ((to_first l o.0 hl read).1 k) at h in
+        (to_first_exactly l room hl).1 (o.0, read, k, n)
 
 -- "with exact plan lengths and no filler": of what edition 1's writer left of a body, the result is what edition 2's
 -- writer leaves of its plain body

@@ -1,6 +1,6 @@
 -- The answer to a buffer's length, by the result's length alone.
 -- Assumes nothing.
-use Rattle.std.proofs.Common.{◌≡◌, ℕ, List, length, ap, arith, Result, Ok, Err}
+use Rattle.std.proofs.Common.{◌≡◌, ℕ, List, length, ap, Result, Ok, Err}
 use Rattle.format.specs.Refusals.{refuse}
 use Rattle.format.specs.Syntax.{Parse, got, refused}
 use Rattle.format.specs.Calls.{answer, Fitted}
