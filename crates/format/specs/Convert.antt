@@ -28,7 +28,8 @@ all_exact i (ts ∷ es) p =
     let more : Parse (List ℕ) = all_exact (suc i) es p in
     cond (exact ts) more (refused PlanInexact i 0)
 
--- "where nothing is lost by it": p, or 29 where the edition that is wanted lacks something of an entry; edition 2 has all
+-- "where nothing is lost by it": p, or 29 where the edition that is wanted lacks something of an entry; edition 2 has
+-- all
 abbrev pub lossless : Edition → List (List Field) → Parse (List ℕ) → Parse (List ℕ)
 lossless First es p = all_exact 0 es p
 lossless Second es p = p

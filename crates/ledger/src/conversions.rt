@@ -12,7 +12,8 @@ use ledger_converter::ledger_convert;
 // A ledger in edition 1, at the buffer's start; after a refusal the buffer is as it was.
 #[unsafe(no_mangle)]
 pub extern "C" fn sat_ledger_to_edition_1(ledger: &[u8], out: &mut [u8]) -> u32
-    ensures { (result ≡ number_of (convert_answer First ledger.now (length out.old))) × (out.new ≡ convert_left First ledger.now out.old) }
+    ensures { (result ≡ number_of (convert_answer First ledger.now (length out.old)))
+        × (out.new ≡ convert_left First ledger.now out.old) }
 {
     let answer = ledger_convert(Edition::First, ledger, out);
     number_of(answer)
@@ -57,7 +58,8 @@ pub extern "C" fn sat_ledger_to_edition_1_length(ledger: &[u8], out_len: usize) 
 // A ledger in edition 2, at the buffer's start; after a refusal the buffer is as it was.
 #[unsafe(no_mangle)]
 pub extern "C" fn sat_ledger_to_edition_2(ledger: &[u8], out: &mut [u8]) -> u32
-    ensures { (result ≡ number_of (convert_answer Second ledger.now (length out.old))) × (out.new ≡ convert_left Second ledger.now out.old) }
+    ensures { (result ≡ number_of (convert_answer Second ledger.now (length out.old)))
+        × (out.new ≡ convert_left Second ledger.now out.old) }
 {
     let answer = ledger_convert(Edition::Second, ledger, out);
     number_of(answer)

@@ -1,6 +1,7 @@
 // Moves the ledgers of an archive, one after the other on standard input, to the edition that the one argument names,
 // `1` or `2`. Ledgers go to standard output. One that can't be converted does not: a line on standard error has its
-// place, the number of input bytes in front of it, and its refusal; the program goes on behind it, and fails at the end.
+// place, the number of input bytes in front of it, and its refusal; the program goes on behind it, and fails at the
+// end.
 #![tactic(auto)]
 
 ghost use Rattle.std.specs.Prelude.{◌≡◌, ◌≤◌, length};

@@ -26,7 +26,8 @@ PlansIn ed es l out out' (Ok n) =
 PlansIn ed es l out out' (Err f) = (p : Parse (List ℕ)) → lossless ed es p ≡ refused f.fault f.need f.have
 
 pub record Plans (from ed : Edition) (l out out' : List ℕ) (r : Result ℕ Refusal) : Type 0 where
-  pub to : (es : List (List Field)) → counted from (length l) beamhopping (value 256 (take 2 (drop 4 l))) (drop 6 l) ≡ got es []
+  pub to : (es : List (List Field))
+      → counted from (length l) beamhopping (value 256 (take 2 (drop 4 l))) (drop 6 l) ≡ got es []
       → PlansIn ed es l out out' r
 
 -- a ledger is read, in its edition
