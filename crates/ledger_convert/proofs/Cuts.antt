@@ -8,6 +8,8 @@ use lib.ListN.{length, take, drop, length-append, length-take, length-drop, take
 use lib.Seq.{take_at, drop_at, take-append-le}
 use Rattle.std.proofs.Common.{take_all}
 use Rattle.std.proofs.lemmas.List.{drop_all}
+use Rattle.std.specs.List.{concat}
+use Rattle.std.proofs.lemmas.List.Concat.{concat_is, flat_map-cons}
 use Rattle.format.specs.Digits.{value, Below}
 use Rattle.format.proofs.DigitLaws.{value_lt, below_take}
 use Rattle.ledger_convert.specs.Archive.{size_in_front, cut, ledgers_in}
@@ -106,24 +108,28 @@ closed_more xs l c h ys =
 
 -- ---- nothing is lost
 
--- ledgers one after the other
-unfoldable pub joined : List (List ℕ) → List ℕ
-joined [] = []
-joined (l ∷ ls) = l ++ joined ls
+-- the library's word for lists one after the other, by its first
+pub concat_none : concat [] ≡ []
+concat_none = concat_is []
 
-joined_cut : (n : ℕ) (xs : List ℕ) → length xs ≤ n → joined (cut n xs) ≡ xs
-unfolding cut joined
-joined_cut zero [] h = refl
+pub concat_more : (l : List ℕ) (ls : List (List ℕ)) → concat (l ∷ ls) ≡ l ++ concat ls
+concat_more l ls =
+    concat_is (l ∷ ls) ∙ flat_map-cons (λ (x : List ℕ). x) l ls ∙ ap (λ (t : List ℕ). l ++ t) (sym (concat_is ls))
+
+joined_cut : (n : ℕ) (xs : List ℕ) → length xs ≤ n → concat (cut n xs) ≡ xs
+unfolding cut
+joined_cut zero [] h = concat_none
 joined_cut zero (x ∷ xs) h = absurd (omega arith)
-joined_cut (suc n) [] h = refl
+joined_cut (suc n) [] h = concat_none
 joined_cut (suc n) (x ∷ xs) h =
     let size : ℕ = size_in_front (x ∷ xs) in
     let less = length-drop size (x ∷ xs) in
     let two = two_at_least (x ∷ xs) in
-    ap (λ (t : List ℕ). take size (x ∷ xs) ++ t) (joined_cut n (drop size (x ∷ xs)) (omega (arith, less, two)))
+    concat_more (take size (x ∷ xs)) (cut n (drop size (x ∷ xs)))
+    ∙ ap (λ (t : List ℕ). take size (x ∷ xs) ++ t) (joined_cut n (drop size (x ∷ xs)) (omega (arith, less, two)))
     ∙ take-append-drop size (x ∷ xs)
 
--- the ledgers of an archive, joined, are the archive
-pub joined_ledgers : (xs : List ℕ) → joined (ledgers_in xs) ≡ xs
+-- the ledgers of an archive, one after the other, are the archive
+pub joined_ledgers : (xs : List ℕ) → concat (ledgers_in xs) ≡ xs
 unfolding ledgers_in
 joined_ledgers xs = joined_cut (length xs) xs (omega arith)

@@ -10,12 +10,13 @@ use lib.ListN.{length, length-append}
 use Rattle.std.specs.Prelude.{Option, Ok}
 use Rattle.std.specs.Io.KnownBytes.{Appends}
 use Rattle.std.proofs.KnownBytes.{Appends-nil, Appends-trans}
+use Rattle.std.specs.List.{concat}
 use Rattle.format.specs.declared.Edition.{Edition}
 use Rattle.format.specs.Convert.{converted}
 use Rattle.ledger_convert.specs.Archive.{size_in_front, cut, ledgers_in, written, reported, outputs, reports}
 use Rattle.ledger_convert.specs.Archive.{archive_output, archive_report, is_empty}
 use Rattle.ledger_convert.specs.Streams.{Sent, Told}
-use Rattle.ledger_convert.proofs.Cuts.{Closed, one_more, joined, joined_ledgers}
+use Rattle.ledger_convert.proofs.Cuts.{Closed, one_more, concat_none, concat_more, joined_ledgers}
 
 pub outputs_append : (ed : Edition) (ls ms : List (List ℕ)) → outputs ed (ls ++ ms) ≡ outputs ed ls ++ outputs ed ms
 unfolding outputs
@@ -25,12 +26,13 @@ outputs_append ed (l ∷ ls) ms =
     ∙ sym (append_assoc (written (converted ed l)) (outputs ed ls) (outputs ed ms))
 
 pub reports_append : (ed : Edition) (place : ℕ) (ls ms : List (List ℕ))
-    → reports ed place (ls ++ ms) ≡ reports ed place ls ++ reports ed (place + length (joined ls)) ms
-unfolding reports joined
-reports_append ed place [] ms = ap (λ (p : ℕ). reports ed p ms) (sym (add-zero place))
+    → reports ed place (ls ++ ms) ≡ reports ed place ls ++ reports ed (place + length (concat ls)) ms
+unfolding reports
+reports_append ed place [] ms =
+    ap (λ (p : ℕ). reports ed p ms) (sym (ap (λ (t : List ℕ). place + length t) concat_none ∙ add-zero place))
 reports_append ed place (l ∷ ls) ms =
-    let far : (place + length l) + length (joined ls) ≡ place + length (l ++ joined ls) =
-    omega (arith, length-append l (joined ls)) in
+    let far : (place + length l) + length (concat ls) ≡ place + length (concat (l ∷ ls)) =
+    omega (arith, length-append l (concat ls), ap length (concat_more l ls)) in
     ap (λ (t : List ℕ). reported place (converted ed l) ++ t) (reports_append ed (place + length l) ls ms)
     ∙ sym (append_assoc (reported place (converted ed l)) (reports ed (place + length l) ls) _)
     ∙ ap (λ (p : ℕ). reports ed place (l ∷ ls) ++ reports ed p ms) far
@@ -50,7 +52,7 @@ module _ (ed : Edition) (xs l : List ℕ) (c : Closed xs) (h : 0 < length l) (k 
   pub report_more : archive_report ed (xs ++ l) ≡ archive_report ed xs ++ reported (length xs) (converted ed l)
   unfolding archive_report reports
   report_more =
-      let place : 0 + length (joined (ledgers_in xs)) ≡ length xs = rw (joined_ledgers xs) (zero-add (length xs)) in
+      let place : 0 + length (concat (ledgers_in xs)) ≡ length xs = rw (joined_ledgers xs) (zero-add (length xs)) in
       ap (reports ed 0) (one_more xs l c h k) ∙ reports_append ed 0 (ledgers_in xs) (l ∷ [])
       ∙ ap (λ (p : ℕ). archive_report ed xs ++ reports ed p (l ∷ [])) place
       ∙ ap (λ (t : List ℕ). archive_report ed xs ++ t) (append-nil (reported (length xs) (converted ed l)))
