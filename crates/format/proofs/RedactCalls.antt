@@ -4,7 +4,7 @@ use mathlib.Core.Path.{◌≡◌, refl, sym, ap, ap₂, ◌∙◌}
 use mathlib.Core.Bool.{Bool, true, false, cond}
 use mathlib.Core.Logic.{◌↔◌, ◌⊎◌, inl, inr}
 use mathlib.Core.List.{List, []}
-use Prim.Native.Nat.{ℕ, ◌+◌, ◌*◌, ◌<◌, ◌≤◌}
+use Prim.Native.Nat.{ℕ, ◌+◌, ◌*◌, ◌≤◌}
 use native.Mathlib.Omega.{arith}
 use lib.Dec.{leb}
 use lib.ListN.{length}
@@ -114,7 +114,7 @@ redact_refusals {f} l room e = go (ledger_read l) refl
     go : (p : Parse Table) → ledger_read l ≡ p
         → (ledger_read l ≡ refused f.fault f.need f.have)
         ⊎ ((t : Table) × (ledger_read l ≡ got t [])
-        × (f ≡ refuse BufferTooShort (length (ledger_of (edition_of l) (id_of l) (satellites redact (id_of l) t))) room))
+        × (f ≡ refuse BufferTooShort (length (copy t)) room))
     go (refused a b c) q =
         let s : Err (refuse a b c) ≡ Err f = sym (ap (answer (id_of l) room) (redact_faults l a b c q)) ∙ e in
         let z : refuse a b c ≡ f = cc in

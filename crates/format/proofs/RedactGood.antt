@@ -2,8 +2,8 @@
 -- Assumes nothing.
 use mathlib.Core.Path.{◌≡◌, refl}
 use mathlib.Core.Bool.{Bool, true, false}
-use mathlib.Core.List.{List, []}
-use Prim.Native.Nat.{ℕ, zero, suc, ◌≤◌}
+use mathlib.Core.List.{List}
+use Prim.Native.Nat.{ℕ, zero, suc}
 use Prim.Native.String as text
 use native.Mathlib.Omega.{arith}
 use Rattle.format.specs.declared.Fault.{Fault}
@@ -19,9 +19,12 @@ use Rattle.format.proofs.RedactFields.{Ordinary}
 -- the flag is 0 there, and the part gone; what `need` asks for follows there too, or is no longer asked for
 data Shed : Syntax → Syntax → Type 0 where
   s_end : Shed end end
-  s_field : (g : Sign) (nm : Name) (w : ℕ) {k k' : ℕ → Syntax} → Ordinary nm → ((v : ℕ) → Shed (k v) (k' v)) → Shed (field g nm w k) (field g nm w k')
-  s_flag : (g : Sign) (nm : Name) (w : ℕ) {k k' : ℕ → Syntax} → is_part nm ≡ false → is_flag nm ≡ true → ((v : ℕ) → Shed (k v) (k' 0)) → Shed (field g nm w k) (field g nm w k')
-  s_part : (g : Sign) (nm : Name) (w : ℕ) {k : ℕ → Syntax} {s : Syntax} → is_part nm ≡ true → ((v : ℕ) → Shed (k v) s) → Shed (field g nm w k) s
+  s_field : (g : Sign) (nm : Name) (w : ℕ) {k k' : ℕ → Syntax} → Ordinary nm → ((v : ℕ) → Shed (k v) (k' v))
+      → Shed (field g nm w k) (field g nm w k')
+  s_flag : (g : Sign) (nm : Name) (w : ℕ) {k k' : ℕ → Syntax} → is_part nm ≡ false → is_flag nm ≡ true
+      → ((v : ℕ) → Shed (k v) (k' 0)) → Shed (field g nm w k) (field g nm w k')
+  s_part : (g : Sign) (nm : Name) (w : ℕ) {k : ℕ → Syntax} {s : Syntax} → is_part nm ≡ true
+      → ((v : ℕ) → Shed (k v) s) → Shed (field g nm w k) s
   s_when : {t : Bool} {k k' m m' : Syntax} → Shed k k' → Shed m m' → Shed (when t k m) (when t k' m')
   s_off : {t : Bool} {k k' m m' : Syntax} → Shed k m' → Shed m m' → Shed (when t k m) (when false k' m')
   s_need : (a : Fault) (w : ℕ) {k k' : Syntax} → Shed k k' → Least w k' → Shed (need a w k) (need a w k')
@@ -31,8 +34,10 @@ data Shed : Syntax → Syntax → Type 0 where
 shed_good : {l i : Bool} {s s' : Syntax} {ts : List Field} → Shed s s' → Good l i s ts → Good l i s' (redact ts)
 unfolding redact
 shed_good s_end g_end = g_end
-shed_good (s_field g nm w {k} {k'} o x) (g_field _ _ _ _ v h e r) = rw (o.0, o.1) (g_field g nm w k' v h e (shed_good (x v) r))
-shed_good (s_flag g nm w {k} {k'} p q x) (g_field _ _ _ _ v h e r) = rw (p, q) (g_field g nm w k' 0 h (omega (arith, e)) (shed_good (x v) r))
+shed_good (s_field g nm w {k} {k'} o x) (g_field _ _ _ _ v h e r) =
+    rw (o.0, o.1) (g_field g nm w k' v h e (shed_good (x v) r))
+shed_good (s_flag g nm w {k} {k'} p q x) (g_field _ _ _ _ v h e r) =
+    rw (p, q) (g_field g nm w k' 0 h (omega (arith, e)) (shed_good (x v) r))
 shed_good (s_part g nm w p x) (g_field _ _ _ _ v _ _ r) = rw p (shed_good (x v) r)
 shed_good (s_when x y) (g_yes r) = g_yes (shed_good x r)
 shed_good (s_when x y) (g_no r) = g_no (shed_good y r)
@@ -58,15 +63,17 @@ shed_u nm w o x = s_field unsigned nm w o (λ _. x)
 
 -- the four fields of a stamp
 abbrev OrdinaryStamp : Name → Type 0
-OrdinaryStamp t = Ordinary (text.◌++◌ t "_year") × Ordinary (text.◌++◌ t "_reserved_zero_future_use") × Ordinary (text.◌++◌ t "_day") × Ordinary (text.◌++◌ t "_day_fraction")
+OrdinaryStamp t =
+    Ordinary (text.◌++◌ t "_year") × Ordinary (text.◌++◌ t "_reserved_zero_future_use")
+    × Ordinary (text.◌++◌ t "_day") × Ordinary (text.◌++◌ t "_day_fraction")
 
 shed_stamp : (t : Name) {s s' : Syntax} → OrdinaryStamp t → Shed s s' → Shed (stamp t s) (stamp t s')
 shed_stamp t o x =
     shed_u (text.◌++◌ t "_year") 8 o.0 (shed_u (text.◌++◌ t "_reserved_zero_future_use") 7 o.1
     (shed_u (text.◌++◌ t "_day") 9 o.2 (shed_u (text.◌++◌ t "_day_fraction") 32 o.3 x)))
 
-shed_times : (n : ℕ) (f : Syntax → Syntax) {s s' : Syntax} → ((r r' : Syntax) → Shed r r' → Shed (f r) (f r')) → Shed s s'
-    → Shed (times n f s) (times n f s')
+shed_times : (n : ℕ) (f : Syntax → Syntax) {s s' : Syntax} → ((r r' : Syntax) → Shed r r' → Shed (f r) (f r'))
+    → Shed s s' → Shed (times n f s) (times n f s')
 shed_times zero f k x = x
 shed_times (suc n) f {s} {s'} k x = k (times n f s) (times n f s') (shed_times n f k x)
 
@@ -126,7 +133,8 @@ shed_metadata start stop {s} {s'} x =
     (shed_u "metadata.reserved_zero_future_use" 1 (refl, refl) (shed_u "interpolation_flag" 1 (refl, refl)
     (shed_u "interpolation_type" 3 (refl, refl) (shed_u "interpolation_degree" 3 (refl, refl)
     (shed_usable UsableStartCut "usable_start_time" start ((refl, refl), (refl, refl), (refl, refl), (refl, refl))
-    (shed_usable UsableStopCut "usable_stop_time" stop ((refl, refl), (refl, refl), (refl, refl), (refl, refl)) x))))))))
+    (shed_usable UsableStopCut "usable_stop_time" stop ((refl, refl), (refl, refl), (refl, refl), (refl, refl))
+    x))))))))
     (λ _ _ _ _ _ _ _ _ _ _ _ _.
     least_zero (usable UsableStartCut "usable_start_time" start (usable UsableStopCut "usable_stop_time" stop s')))
 

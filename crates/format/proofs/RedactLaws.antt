@@ -1,7 +1,7 @@
 -- S-31: copies without covariance: they are ledgers again, they are one for all that differ only in covariance, and a
 -- copy of a copy is itself.
 -- Assumes nothing.
-use mathlib.Core.Path.{◌≡◌, refl, sym, ap, ap₂, ◌∙◌, subst}
+use mathlib.Core.Path.{◌≡◌, sym, ap, ap₂, ◌∙◌, subst}
 use mathlib.Core.Bool.{Bool, cond}
 use mathlib.Core.List.{List, []}
 use Prim.Native.Nat.{ℕ, ◌≤◌}
@@ -63,8 +63,9 @@ module _ (l : List ℕ) (t : Table) (h : Below 256 l) (e : ledger_read l ≡ got
   good = (accepted_good (fine_then (id_of l)) (read_body_accepted l t h e)).0
 
   -- the fields without covariance come back through the ledger's edition as they are
-  copy_again_read : ledger_read (ledger_of (edition_of l) (id_of l) (satellites redact (id_of l) t)) ≡ got (satellites redact (id_of l) t) []
-  copy_again_read =
+  copy_reads : ledger_read (ledger_of (edition_of l) (id_of l) (satellites redact (id_of l) t))
+      ≡ got (satellites redact (id_of l) t) []
+  copy_reads =
       ledger_again (edition_of l) (under (id_of l) (read_body_accepted l t h e))
       ∙ ap (λ (x : Table). got x []) (under_form (id_of l) (edition_of l) t good (own_form l t h e))
 
@@ -82,7 +83,7 @@ accepted_copy l {l'} {rest} h e =
       is = z;
       id = ap id_of z ∙ id_of_lem (edition_of l) (id_of l) (satellites redact (id_of l) o.0);
       edition = ap edition_of z ∙ edition_of_lem (edition_of l) (id_of l) (satellites redact (id_of l) o.0);
-      again = ap ledger_read z ∙ copy_again_read l o.0 h q;
+      again = ap ledger_read z ∙ copy_reads l o.0 h q;
     }
 
 -- "The copy is itself an accepted ledger of its edition", of a body accepted before
@@ -156,7 +157,8 @@ pub copy_clean : (l : List ℕ) (t : Table) → Below 256 l → ledger_read l �
     → All (λ (ts : List Field). All Clean ts) (entries_of (satellites redact (id_of l) t))
 unfolding satellites
 copy_clean l t h e i =
-    let g : GoodTable (layout_before (layout 4)) t = subst (λ (k : ℕ). GoodTable (layout_before (layout k)) t) i (good l t h e) in
+    let g : GoodTable (layout_before (layout 4)) t =
+    subst (λ (k : ℕ). GoodTable (layout_before (layout k)) t) i (good l t h e) in
     rw i (each_clean g)
 
 -- "Of two accepted ledgers that differ only in covariance flags and parts ... the grazier's copies are the same bytes"

@@ -71,7 +71,8 @@ insert (suc n) (x ∷ xs) = x ∷ insert n xs
 -- the flag stands behind n other fields, and none follows
 data FlagAt : ℕ → Syntax → Type 0 where
   here : {k : ℕ → Syntax} → ((v : ℕ) → NoFlag (k v)) → FlagAt 0 (field unsigned "covariance_flag" 1 k)
-  behind : (g : Sign) (nm : Name) (w n : ℕ) {k : ℕ → Syntax} → Ordinary nm → ((v : ℕ) → FlagAt n (k v)) → FlagAt (suc n) (field g nm w k)
+  behind : (g : Sign) (nm : Name) (w n : ℕ) {k : ℕ → Syntax} → Ordinary nm → ((v : ℕ) → FlagAt n (k v))
+      → FlagAt (suc n) (field g nm w k)
 
 flag_before : {n : ℕ} {s : Syntax} → FlagAt n s → FlagAt n (before s)
 flag_before (here {k} x) = here (λ v. noflag_before (k v) (x v))
@@ -92,6 +93,10 @@ flag_at (behind g nm w n o x) (g_field _ _ _ _ v {ts} _ _ r) =
 
 -- ---- the satellite's
 
+-- a field that is not the flag
+free : {A : Type 0} → A → (false ≡ false) × (ℕ → A)
+free a = (refl, λ _. a)
+
 noflag_times : (n : ℕ) (f : Syntax → Syntax) (s : Syntax) → ((r : Syntax) → NoFlag r → NoFlag (f r)) → NoFlag s
     → NoFlag (times n f s)
 noflag_times zero f s k h = h
@@ -99,18 +104,16 @@ noflag_times (suc n) f s k h = k (times n f s) (noflag_times n f s k h)
 
 noflag_motion : (s : Syntax) → NoFlag s → NoFlag (motion s)
 unfolding is_flag
-noflag_motion s h =
-    (refl, λ _. (refl, λ _. (refl, λ _. (refl, λ _. (refl, λ _. (refl, λ _. (refl, λ _. (refl, λ _. (refl, λ _. (refl, λ _. h))))))))))
+noflag_motion s h = free (free (free (free (free (free (free (free (free (free h)))))))))
 
 noflag_ephemeris : (accel : ℕ) (s : Syntax) → NoFlag s → NoFlag (ephemeris accel s)
 unfolding is_flag
-noflag_ephemeris accel s h =
-    (noflag_motion (acceleration s) (refl, λ _. (refl, λ _. (refl, λ _. h))), noflag_motion s h)
+noflag_ephemeris accel s h = (noflag_motion (acceleration s) (free (free (free h))), noflag_motion s h)
 
 noflag_covariance : (flag : ℕ) → NoFlag (covariance flag)
 unfolding is_flag
 noflag_covariance flag =
-    ((refl, λ _. (refl, λ _. (refl, λ _. (refl, λ _. noflag_times 21 (u "covariance_elements" 32) end (λ r h. (refl, λ _. h)) tt)))), tt)
+    (free (free (free (free (noflag_times 21 (u "covariance_elements" 32) end (λ r h. free h) tt)))), tt)
 
 noflag_ephemerides : (accel flag : ℕ) → NoFlag (ephemerides accel flag)
 unfolding is_flag
@@ -120,11 +123,11 @@ noflag_ephemerides accel flag =
 noflag_metadata : (start stop : ℕ) (s : Syntax) → NoFlag s → NoFlag (metadata start stop s)
 unfolding is_flag
 noflag_metadata start stop s h =
-    let last : NoFlag (usable UsableStopCut "usable_stop_time" stop s) =
-    ((refl, λ _. (refl, λ _. (refl, λ _. (refl, λ _. h)))), h) in
-    let both : NoFlag (usable UsableStartCut "usable_start_time" start (usable UsableStopCut "usable_stop_time" stop s)) =
-    ((refl, λ _. (refl, λ _. (refl, λ _. (refl, λ _. last)))), last) in
-    (refl, λ _. (refl, λ _. (refl, λ _. (refl, λ _. (refl, λ _. (refl, λ _. (refl, λ _. (refl, λ _. (refl, λ _. (refl, λ _. (refl, λ _. (refl, λ _. both))))))))))))
+    let r : Syntax = usable UsableStopCut "usable_stop_time" stop s in
+    let last : NoFlag r = (free (free (free (free h))), h) in
+    let both : NoFlag (usable UsableStartCut "usable_start_time" start r) =
+    (free (free (free (free last))), last) in
+    free (free (free (free (free (free (free (free (free (free (free (free both)))))))))))
 
 noflag_rest : (meta start stop accel cov : ℕ)
     → NoFlag (when (eqb meta 1) (metadata start stop (ephemerides accel cov)) (ephemerides accel cov))
@@ -190,4 +193,5 @@ unfolding others
 clean_others ts = clean_all (others ts) (filter_passes (λ (t : Field). not (is_part (name t) || is_flag (name t))) ts)
 
 pub redact_clean : {l i : Bool} {ts : List Field} → Good l i (before position3) ts → All Clean (redact ts)
-redact_clean {ts = ts} r = subst (λ (us : List Field). All Clean us) (sym (with_flag r)) (clean_insert 6 (others ts) (clean_others ts))
+redact_clean {ts = ts} r =
+    subst (λ (us : List Field). All Clean us) (sym (with_flag r)) (clean_insert 6 (others ts) (clean_others ts))

@@ -85,7 +85,8 @@ entries_same (ts ∷ es) (us ∷ fs) g q e =
     let b : map others es ≡ map others fs = cc in
     ap₂ (λ (x : List Field) (y : List (List Field)). x ∷ y) (same_redact g.0 q.0 a) (entries_same es fs g.1 q.1 b)
 
-entries_clean : (es : List (List Field)) → AllGood (before position3) es → All (λ (ts : List Field). All Clean ts) (map redact es)
+entries_clean : (es : List (List Field)) → AllGood (before position3) es
+    → All (λ (ts : List Field). All Clean ts) (map redact es)
 entries_clean [] g = All-nil (λ (ts : List Field). All Clean ts)
 entries_clean (ts ∷ es) g =
     All-cons (λ (us : List Field). All Clean us) (redact ts) (map redact es) (redact_clean g.0) (entries_clean es g.1)
@@ -95,7 +96,8 @@ entries_clean (ts ∷ es) g =
 good_each : {t : Table} → GoodTable (layout 4) t → GoodTable (layout 4) (each redact t)
 good_each (good_list {es = es} g gs) = good_list g (all_redacted position3 (λ _ _ _. redact_good) es gs)
 
-good_each_before : {t : Table} → GoodTable (layout_before (layout 4)) t → GoodTable (layout_before (layout 4)) (each redact t)
+good_each_before : {t : Table} → GoodTable (layout_before (layout 4)) t
+    → GoodTable (layout_before (layout 4)) (each redact t)
 good_each_before (good_list {es = es} g gs) =
     good_list g (all_redacted (before position3) (λ _ _ _. redact_good_before) es gs)
 
@@ -163,7 +165,8 @@ is_four : (id : ℕ) → eqb id 4 ≡ true → 4 ≡ id
 is_four id e = sym (eqb-true id 4 e)
 
 -- without covariance the fields are those of a body that is accepted as the first was; l: the layout now or before
-four_as : (l : Layout) {b : List ℕ} {t : Table} → FineLayout l → ((u : Table) → GoodTable l u → GoodTable l (each redact u))
+four_as : (l : Layout) {b : List ℕ} {t : Table} → FineLayout l
+    → ((u : Table) → GoodTable l u → GoodTable l (each redact u))
     → AcceptedAs l 4 b t → AcceptedAs l 4 (kept_of (each redact t)) (each redact t)
 four_as l {b} {t} x k p =
     let g = accepted_good x p in
@@ -176,8 +179,8 @@ under id {b} {t} p = go (eqb id 4) refl
   where
     go : (c : Bool) → eqb id 4 ≡ c → AcceptedBefore id (kept_of (cond c (each redact t) t)) (cond c (each redact t) t)
     go true e =
-        subst (λ (j : ℕ). AcceptedBefore j b t → AcceptedBefore j (kept_of (each redact t)) (each redact t)) (is_four id e)
-        (four_as (layout_before (layout 4)) (fine_then 4) (λ _. good_each_before)) p
+        subst (λ (j : ℕ). AcceptedBefore j b t → AcceptedBefore j (kept_of (each redact t)) (each redact t))
+        (is_four id e) (four_as (layout_before (layout 4)) (fine_then 4) (λ _. good_each_before)) p
     go false e = rw (form_of_2 t) at (body_again Second (fine_then id) p)
 
 pub under_now : (id : ℕ) {b : List ℕ} {t : Table} → Accepted id b t
@@ -225,7 +228,8 @@ pub under_again : (id : ℕ) (t : Table) → satellites redact id (satellites re
 unfolding satellites
 under_again id t = go (eqb id 4)
   where
-    go : (c : Bool) → cond c (each redact (cond c (each redact t) t)) (cond c (each redact t) t) ≡ cond c (each redact t) t
+    go : (c : Bool)
+        → cond c (each redact (cond c (each redact t) t)) (cond c (each redact t) t) ≡ cond c (each redact t) t
     go true = each_again t
     go false = refl
 
@@ -234,17 +238,20 @@ pub under_others : (id : ℕ) (t : Table) → satellites others id (satellites r
 unfolding satellites
 under_others id t = go (eqb id 4)
   where
-    go : (c : Bool) → cond c (each others (cond c (each redact t) t)) (cond c (each redact t) t) ≡ cond c (each others t) t
+    go : (c : Bool)
+        → cond c (each others (cond c (each redact t) t)) (cond c (each redact t) t) ≡ cond c (each others t) t
     go true = each_others t
     go false = refl
 
 -- tables whose other fields are the same are the same without covariance
-pub under_same : (id : ℕ) {t t' : Table} → GoodTable (layout_before (layout id)) t → GoodTable (layout_before (layout id)) t'
-    → satellites others id t ≡ satellites others id t' → satellites redact id t ≡ satellites redact id t'
+pub under_same : (id : ℕ) {t t' : Table} → GoodTable (layout_before (layout id)) t
+    → GoodTable (layout_before (layout id)) t' → satellites others id t ≡ satellites others id t'
+    → satellites redact id t ≡ satellites redact id t'
 unfolding satellites
 under_same id {t} {t'} g g' q = go (eqb id 4) refl q
   where
-    at_four : {u : Table} → eqb id 4 ≡ true → GoodTable (layout_before (layout id)) u → GoodTable (layout_before (layout 4)) u
+    at_four : {u : Table} → eqb id 4 ≡ true → GoodTable (layout_before (layout id)) u
+        → GoodTable (layout_before (layout 4)) u
     at_four {u} e x = subst (λ (j : ℕ). GoodTable (layout_before (layout j)) u) (eqb-true id 4 e) x
 
     go : (c : Bool) → eqb id 4 ≡ c → cond c (each others t) t ≡ cond c (each others t') t'

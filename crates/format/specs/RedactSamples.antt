@@ -143,9 +143,13 @@ redact_samples =
     unredacted (satellite 1 1) 25 6 0 ∷
     unredacted (pair (dwelt 26 []) (dwelt 25 [])) 28 61 0 ∷
     -- calls: 22 names the copy's length, the same for all that differ only in covariance
-    copies (ephemeris_ledger First 1 (bare 7 1 (part_bytes 99))) (used 27) (Err (refuse BufferTooShort 28 27)) (used 27) ∷
+    copies
+    (ephemeris_ledger First 1 (bare 7 1 (part_bytes 99)))
+    (used 27) (Err (refuse BufferTooShort 28 27)) (used 27) ∷
     copies (ephemeris_ledger First 1 (bare 7 0 [])) (used 27) (Err (refuse BufferTooShort 28 27)) (used 27) ∷
-    copies (ephemeris_ledger First 1 (bare 7 1 (part_bytes 99))) (used 28) (done 4 28) (ephemeris_ledger First 1 (bare 7 0 [])) ∷
+    copies
+    (ephemeris_ledger First 1 (bare 7 1 (part_bytes 99)))
+    (used 28) (done 4 28) (ephemeris_ledger First 1 (bare 7 0 [])) ∷
     copies
     (ephemeris_ledger First 1 (bare 7 1 (part_bytes 99)))
     (used 30) (done 4 28) (ephemeris_ledger First 1 (bare 7 0 []) ++ used 2) ∷
