@@ -1,13 +1,14 @@
-/* Satellite access table bodies, their plain and kept bodies, their ledgers, in either edition, the ids of their
- * entries, and the order of clocks.
+/* Satellite access table bodies, their plain and kept bodies, their ledgers, in either edition, with covariance and
+ * without it, the ids of their entries, and the order of clocks.
  *
  * sat_ledger_write files a body: it stores the ledger, in edition 1, at the start of `out`. sat_ledger_write_edition_2
  * does so in edition 2, which also keeps each plan's length and filler as they came (table id 3; under other ids the
  * editions differ in their version byte alone). sat_ledger_read takes a ledger of either edition back to a body: the
  * plain body in edition 1, the kept body in edition 2. sat_plain_body and sat_kept_body give these of a body without
  * its ledger. sat_ledger_to_edition_1 and sat_ledger_to_edition_2 move a ledger of either edition to the one that they
- * name. sat_entry_ids lists the ids of a body's entries, each different one once, in the order of their first entries;
- * bodies of table id 2 and of ids from 5 on have none. All eight return 0, or the number of the refusal. On 0 what
+ * name. sat_ledger_without_covariance copies a ledger of either edition without the covariance of its satellites (table
+ * id 4). sat_entry_ids lists the ids of a body's entries, each different one once, in the order of their first entries;
+ * bodies of table id 2 and of ids from 5 on have none. All nine return 0, or the number of the refusal. On 0 what
  * stands in `out` behind the result keeps its value; after a refusal all of it does.
  *
  * The plain body has every field as it was read, plan lengths exact, padding zero, and nothing behind a plan's fields
@@ -19,6 +20,12 @@
  * exactly if its plain body is its kept body, so that nothing is lost. A ledger that is in the wanted edition already
  * is tested as any other, and copied.
  *
+ * In a copy without covariance the covariance flag of each satellite is 0 and its covariance is gone, epoch and values;
+ * all else is as it was, but for the length in front. It is a ledger of the same table id and edition. Of two ledgers
+ * that are taken, and that differ in nothing but covariance, and so in length, the copies are the same bytes, and so is
+ * the length that 22 names: nothing of a covariance can be learnt from a copy. Ledgers of other table ids are copied as
+ * they are.
+ *
  * The further calls are given the same bytes and the length of the buffer, not the buffer. They write nothing, keep
  * nothing between calls, and may be made before, after or without the call that fills the buffer:
  *   _need, _have       the two values of the refusal; 0 where nothing is refused
@@ -26,9 +33,10 @@
  * Lengths of `out` and of results are in its units: bytes, and for sat_entry_ids ids of 32 bits.
  *
  * Buffers that always suffice: 6 + 2 * body_len bytes for a ledger in either edition, so never more than
- * SAT_LEDGER_MAX, which also holds every moved ledger; for a plain or kept body body_len bytes, or SAT_BODY_MAX where
- * it comes from a ledger; body_len / 4 ids, so never more than SAT_ENTRY_IDS_MAX. The sat_plain_body and sat_kept_body
- * calls take some 10,000 bytes of stack, the sat_entry_ids calls 5,000, the others 2,000.
+ * SAT_LEDGER_MAX, which also holds every moved ledger; ledger_len bytes for a copy without covariance; for a plain or
+ * kept body body_len bytes, or SAT_BODY_MAX where it comes from a ledger; body_len / 4 ids, so never more than
+ * SAT_ENTRY_IDS_MAX. The sat_plain_body and sat_kept_body calls take some 10,000 bytes of stack, the sat_entry_ids
+ * calls 5,000, the others 2,000.
  *
  * Pointers: (NULL, 0) is nothing, an empty body, an empty ledger or no buffer, and is answered as any other pointer
  * with length 0; tests/c/pages.c tries it for each pointer of each call. With a length above 0 a pointer leads to that
@@ -71,9 +79,11 @@
  *
  * The calls that take a body refuse by 1 to 22 and 30, the same bodies by the same numbers but for 22; sat_ledger_read
  * refuses by 22 to 26 and 28, and the calls that move a ledger the same ledgers by the same numbers but for 22,
- * whatever edition is wanted, and behind these by 29, with the index, from 0, of the first such plan. A refusal by 22
- * comes last. A ledger that holds an extension above 299, as ledgers from before 30 may, is read and moved as any
- * other; the calls that take a body refuse the body that comes back by 30.
+ * whatever edition is wanted, and behind these by 29, with the index, from 0, of the first such plan. The copy without
+ * covariance refuses the ledgers that sat_ledger_read refuses, by the same numbers but for 22: so 26 is of the ledger
+ * with its covariance, whatever the copy would have. A refusal by 22 comes last. A ledger that holds an extension above
+ * 299, as ledgers from before 30 may, is read, moved and copied as any other; the calls that take a body refuse the
+ * body that comes back by 30.
  *
  * sat_clock_order refuses nothing, whatever the extensions. It tells how a clock reading, base and extension, stands to
  * another: 0 the same instant, 1 earlier, 2 later, 3 opposite. A reading has 300 * base + ext ticks, of the low 33 bits
@@ -132,6 +142,12 @@ size_t sat_ledger_to_edition_2_need(const uint8_t *ledger, size_t ledger_len, si
 size_t sat_ledger_to_edition_2_have(const uint8_t *ledger, size_t ledger_len, size_t out_len);
 size_t sat_ledger_to_edition_2_length(const uint8_t *ledger, size_t ledger_len, size_t out_len);
 uint8_t sat_ledger_to_edition_2_table_id(const uint8_t *ledger, size_t ledger_len, size_t out_len);
+
+uint32_t sat_ledger_without_covariance(const uint8_t *ledger, size_t ledger_len, uint8_t *out, size_t out_len);
+size_t sat_ledger_without_covariance_need(const uint8_t *ledger, size_t ledger_len, size_t out_len);
+size_t sat_ledger_without_covariance_have(const uint8_t *ledger, size_t ledger_len, size_t out_len);
+size_t sat_ledger_without_covariance_length(const uint8_t *ledger, size_t ledger_len, size_t out_len);
+uint8_t sat_ledger_without_covariance_table_id(const uint8_t *ledger, size_t ledger_len, size_t out_len);
 
 uint32_t sat_plain_body(uint8_t table_id, const uint8_t *body, size_t body_len, uint8_t *out, size_t out_len);
 size_t sat_plain_body_need(uint8_t table_id, const uint8_t *body, size_t body_len, size_t out_len);

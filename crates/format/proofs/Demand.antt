@@ -94,7 +94,7 @@ accepted_good {l} {id} {b} {t} x p =
     (r.0, r.1, leb-true (length b) 4096 q.0)
 
 -- good fields that are not too long are those of their kept body
-good_accepted : (l : Layout) (id : ℕ) {t : Table} → FineLayout l → id < 256 → GoodTable l t → length (kept_of t) ≤ 4096 → AcceptedAs l id (kept_of t) t
+pub good_accepted : (l : Layout) (id : ℕ) {t : Table} → FineLayout l → id < 256 → GoodTable l t → length (kept_of t) ≤ 4096 → AcceptedAs l id (kept_of t) t
 unfolding body_read_as
 good_accepted l id {t} x h g m =
     record {

@@ -17,6 +17,12 @@ pub mod LedgerFaults
 pub mod PlanlessLaws
 pub mod ConvertLaws
 pub mod ConvertCalls
+pub mod RedactFields
+pub mod RedactGood
+pub mod RedactOthers
+pub mod RedactTables
+pub mod RedactLaws
+pub mod RedactCalls
 pub mod ReadLaws
 pub mod GroupLaws
 pub mod ListLaws

@@ -1,4 +1,4 @@
--- The samples of specs/Samples: each list is shown whole, by computation.
+-- The samples of specs/Samples and RedactSamples: each list is shown whole, by computation.
 -- Assumes nothing.
 use Rattle.std.specs.Prelude.{refl}
 use Rattle.format.specs.Digits.{digits, value, bits_of, bytes_of, twos, splice}
@@ -9,7 +9,9 @@ use Rattle.format.specs.Whole.{entries_of, walk, read_as, body_read_as, laids, l
 use Rattle.format.specs.ByName.{first_by}
 use Rattle.format.specs.Calls.{answer, left, filed, relaid, restored, write_answer, write_left, read_answer, read_left}
 use Rattle.format.specs.Convert.{exact, all_exact, converted, convert_answer, convert_left}
+use Rattle.format.specs.Redact.{is_flag, is_part, redact, satellites, redacted, redact_answer, redact_left}
 use Rattle.format.specs.Samples.{AllHold, p1_to_p12, ledger_samples, edition_2_samples, extension_samples, call_samples, convert_samples}
+use Rattle.format.specs.RedactSamples.{redact_samples}
 
 pub samples_hold : AllHold p1_to_p12
 unfolding p1_to_p12 filed relaid body_read_as read_as walk read_body bits_of bytes_of digits value ledger_of content_of body_of laids ledgers ledger laid position fragment association beamhopping header position3 entries_of first_by twos
@@ -38,3 +40,8 @@ pub convert_samples_hold : AllHold convert_samples
 unfolding convert_samples converted exact all_exact convert_answer convert_left answer left splice entries_of ledger_read content_as counted read_ledger ledger_of content_of laids ledgers ledger laid body_of bits_of bytes_of digits value position association beamhopping
 convert_samples_hold =
     (refl, (refl, (refl, (refl, (refl, (refl, (refl, (refl, (refl, (refl, (refl, (refl, (refl, (refl, (refl, (refl, (refl, (refl, (refl, (refl, (refl, (refl, (refl, (refl, (refl, (refl, (refl, (refl, (refl, (refl, (refl, (refl, (refl, (refl, (refl, (refl, (refl, (refl, (refl, ((refl, refl), ((refl, refl), ((refl, refl), ((refl, refl), ((refl, refl), ((refl, refl), tt)))))))))))))))))))))))))))))))))))))))))))))
+
+pub redact_samples_hold : AllHold redact_samples
+unfolding redact_samples redacted redact satellites is_flag is_part redact_answer redact_left answer left splice ledger_read content_as counted read_ledger ledger_of content_of laids ledgers ledger laid body_of bits_of bytes_of digits value position fragment association beamhopping header position3
+redact_samples_hold =
+    (refl, (refl, (refl, (refl, (refl, (refl, (refl, (refl, (refl, (refl, (refl, (refl, (refl, (refl, (refl, (refl, (refl, (refl, (refl, (refl, (refl, (refl, (refl, (refl, (refl, (refl, (refl, (refl, (refl, (refl, (refl, (refl, (refl, (refl, (refl, (refl, (refl, (refl, (refl, (refl, (refl, (refl, (refl, ((refl, refl), ((refl, refl), ((refl, refl), ((refl, refl), ((refl, refl), ((refl, refl), ((refl, refl), ((refl, refl), tt)))))))))))))))))))))))))))))))))))))))))))))))))))

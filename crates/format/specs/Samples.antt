@@ -1,5 +1,6 @@
--- Document 01's samples P1 to P12, and samples of ledgers of both editions, of clocks' extensions and of conversions:
--- that each list holds is shown in proofs/SamplesHold, by computation.
+-- Document 01's samples P1 to P12, and samples of ledgers of both editions, of clocks' extensions and of conversions;
+-- those of copies without covariance are in RedactSamples. That each list holds is shown in proofs/SamplesHold, by
+-- computation.
 -- Assumes nothing.
 use Rattle.std.specs.Prelude.{ℕ, ◌+◌, ◌≡◌, List, [], ◌∷◌, ◌++◌, map, ℤ, pos, negsuc, length, replicate, Option, Some, None, Result, Err}
 use Rattle.format.specs.Digits.{digits}
@@ -11,14 +12,15 @@ use Rattle.format.specs.ByName.{the_int}
 use Rattle.format.specs.Refusals.{fault_number, refuse}
 use Rattle.format.specs.Calls.{done, filed, relaid, restored, write_answer, write_left, read_answer, read_left}
 use Rattle.format.specs.Convert.{converted, convert_answer, convert_left}
+use Rattle.format.specs.Redact.{redacted, redact_answer, redact_left}
 use Rattle.format.specs.declared.Refusal.{Refusal}
 use Rattle.format.specs.declared.Output.{Output}
 use Rattle.format.specs.declared.Fault.TheVariants.{BodyEmpty, BufferTooShort, ValueMisfit, PlanInexact}
 
 -- A case and what it must give: a body under its id and its ledger in an edition; its plain or kept body; its refusal,
 -- the same of both; a body of fragments and their latitudes; a ledger, its id and its plain or kept body, or its
--- refusal; a ledger in the edition that is wanted, or the refusal; a call with a buffer, the answer, and the buffer
--- afterwards.
+-- refusal; a ledger in the edition that is wanted, or the refusal; a ledger's copy without covariance, or the refusal;
+-- a call with a buffer, the answer, and the buffer afterwards.
 pub data Sample : Type 0 where
   files lays : Edition → ℕ → List ℕ → List ℕ → Sample
   refuses : Edition → ℕ → List ℕ → ℕ → ℕ → ℕ → Sample
@@ -27,9 +29,12 @@ pub data Sample : Type 0 where
   denies : List ℕ → ℕ → ℕ → ℕ → Sample
   converts : Edition → List ℕ → List ℕ → Sample
   unconverted : Edition → List ℕ → ℕ → ℕ → ℕ → Sample
+  redacts : List ℕ → List ℕ → Sample
+  unredacted : List ℕ → ℕ → ℕ → ℕ → Sample
   writes : ℕ → List ℕ → List ℕ → Result Output Refusal → List ℕ → Sample
   reads : List ℕ → List ℕ → Result Output Refusal → List ℕ → Sample
   moves : Edition → List ℕ → List ℕ → Result Output Refusal → List ℕ → Sample
+  copies : List ℕ → List ℕ → Result Output Refusal → List ℕ → Sample
 
 -- a refusal's number and values, as the papers have them; none of a result
 abbrev pub refusal_in : {A : Type 0} → Parse A → Option (ℕ × ℕ × ℕ)
@@ -46,9 +51,12 @@ Holds (restores l id b) = (id_of l ≡ id) × (restored l ≡ got b [])
 Holds (denies l x y z) = refusal_in (restored l) ≡ Some (x, y, z)
 Holds (converts ed l l') = converted ed l ≡ got l' []
 Holds (unconverted ed l x y z) = refusal_in (converted ed l) ≡ Some (x, y, z)
+Holds (redacts l l') = redacted l ≡ got l' []
+Holds (unredacted l x y z) = refusal_in (redacted l) ≡ Some (x, y, z)
 Holds (writes id b out a out') = (write_answer First id b (length out) ≡ a) × (write_left First id b out ≡ out')
 Holds (reads l out a out') = (read_answer l (length out) ≡ a) × (read_left l out ≡ out')
 Holds (moves ed l out a out') = (convert_answer ed l (length out) ≡ a) × (convert_left ed l out ≡ out')
+Holds (copies l out a out') = (redact_answer l (length out) ≡ a) × (redact_left l out ≡ out')
 
 abbrev pub AllHold : List Sample → Type 0
 AllHold [] = Unit {0}

@@ -2,11 +2,13 @@
 ghost use Rattle.std.specs.Prelude.{◌≡◌};
 ghost use Rattle.format.specs.Calls.{write_answer, read_answer};
 ghost use Rattle.format.specs.Convert.{convert_answer};
+ghost use Rattle.format.specs.Redact.{redact_answer};
 ghost use Rattle.plain_body.specs.Bodies.{body_answer};
 
 use format::{Edition, Output, Refusal, fitted};
 use ledger_converter::convert_measure;
 use ledger_reader::ledger_measure;
+use ledger_redactor::redact_measure;
 use ledger_writer::ledger_size;
 use plain_body::edition_measure;
 
@@ -49,5 +51,13 @@ pub fn convert_answer(edition: Edition, ledger: &[u8], room: usize) -> Result<Ou
     ensures { result ≡ convert_answer edition ledger.now room }
 {
     let measure = convert_measure(edition, ledger)?;
+    fitted(measure.table_id, measure.length, room)
+}
+
+// What the call for a ledger without covariance answers with a buffer of so many bytes.
+pub fn redact_answer(ledger: &[u8], room: usize) -> Result<Output, Refusal>
+    ensures { result ≡ redact_answer ledger.now room }
+{
+    let measure = redact_measure(ledger)?;
     fitted(measure.table_id, measure.length, room)
 }

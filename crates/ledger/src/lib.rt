@@ -1,7 +1,8 @@
-// The ledger's writers and reader, the plain and the kept body, a ledger in the other edition, the entries' ids and the
-// order of clocks, for C. The call that fills a buffer returns 0 or the refusal's number; the further calls take the
-// same bytes and the buffer's length, write nothing, and give the answer's other numbers, 0 where there is none. The
-// order of clocks refuses nothing. Each edition has calls of its own, since C's exported names stay.
+// The ledger's writers and reader, the plain and the kept body, a ledger in the other edition, a ledger without
+// covariance, the entries' ids and the order of clocks, for C. The call that fills a buffer returns 0 or the refusal's
+// number; the further calls take the same bytes and the buffer's length, write nothing, and give the answer's other
+// numbers, 0 where there is none. The order of clocks refuses nothing. Each edition has calls of its own, since C's
+// exported names stay.
 #![tactic(auto)]
 
 ghost use Rattle.std.specs.Prelude.{◌≡◌, length};
@@ -22,6 +23,7 @@ use plain_body::edition_body;
 
 mod answers;
 mod conversions;
+mod copies;
 mod numbers;
 
 // The ledger of a body in edition 1, at the buffer's start; after a refusal the buffer is as it was.

@@ -25,8 +25,9 @@ use Rattle.format.proofs.FineTables.{fine_beamhopping}
 use Rattle.format.proofs.EntryLaws.{counted_good}
 use Rattle.format.proofs.Demand.{passed}
 use Rattle.format.proofs.ConvertLaws.{other_form, fields_converted, other_content}
-use Rattle.ledger_converter.specs.Plans.{Appended}
-use Rattle.ledger_converter.specs.Steps.{PlansThere, PlansIn, Plans, ReadAs, ContentIn, Content}
+use Rattle.runs.specs.Appended.{Appended}
+use Rattle.ledger_reader.specs.Measured.{ReadAs}
+use Rattle.ledger_converter.specs.Steps.{PlansThere, PlansIn, Plans, ContentIn, Content}
 
 -- ---- a ledger's plans
 

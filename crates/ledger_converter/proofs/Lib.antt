@@ -1,4 +1,3 @@
-mod Appends
 mod PlanParts
 mod PlanFacts
 mod Walking

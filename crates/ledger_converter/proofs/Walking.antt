@@ -23,9 +23,10 @@ use Rattle.format.specs.Convert.{exact, all_exact, lossless}
 use Rattle.format.proofs.DigitLaws.{length_digits}
 use Rattle.format.proofs.ParseLaws.{push_got, then_got}
 use Rattle.ledger_converter.specs.declared.Plan.{Plan}
-use Rattle.ledger_converter.specs.Plans.{Appended, bytes_in, has_all, PlanThere, PartsOf, PlanAt}
+use Rattle.runs.specs.Appended.{Appended}
+use Rattle.ledger_converter.specs.Plans.{bytes_in, has_all, PlanThere, PartsOf, PlanAt}
 use Rattle.ledger_converter.specs.Steps.{PlansThere, Plans}
-use Rattle.ledger_converter.proofs.Appends.{nothing_yet, also, named}
+use Rattle.runs.proofs.Appends.{nothing_yet, also, named}
 
 -- the test of the entries from index i on
 abbrev from_index : Edition → ℕ → List (List Field) → Parse (List ℕ) → Parse (List ℕ)

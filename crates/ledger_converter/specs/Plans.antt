@@ -1,7 +1,7 @@
--- A plan of a ledger in its parts, and the stores that lay them one behind the other. Nothing public rests on these.
+-- A plan of a ledger in its parts. Nothing public rests on these.
 -- Assumes nothing: these are definitions.
 use Rattle.std.specs.Prelude.{ℕ, ◌+◌, ◌/◌, ◌≤◌, ◌≡◌, Bool, true, ◌&&◌, eqb, List, ◌++◌, length, drop, Result, Ok, Err}
-use Rattle.format.specs.Digits.{digits, splice}
+use Rattle.format.specs.Digits.{digits}
 use Rattle.format.specs.Syntax.{Field, got}
 use Rattle.format.specs.declared.Edition.{Edition}
 use Rattle.format.specs.declared.Edition.TheVariants.{First, Second}
@@ -12,12 +12,6 @@ use Rattle.format.specs.Ledger.{ledger, read_ledger}
 use Rattle.format.specs.Convert.{exact}
 use Rattle.ledger_converter.specs.declared.Fields.{Fields}
 use Rattle.ledger_converter.specs.declared.Plan.{Plan}
-
--- xs stand in a buffer from a place on, if it has room for them, and `behind` is the place behind them
-pub record Appended (xs : List ℕ) (at : ℕ) (out out' : List ℕ) (behind : ℕ) : Type 0 where
-  pub size : behind ≡ at + length xs
-  pub bytes : at + length xs ≤ length out → out' ≡ splice out at xs
-  pub long : length out' ≡ length out
 
 -- a plan's bytes in an edition, by its parts
 abbrev pub bytes_in : Edition → Plan → List ℕ

@@ -8,9 +8,7 @@ use Rattle.format.specs.declared.Refusal.{Refusal}
 use Rattle.format.specs.Tables.{beamhopping}
 use Rattle.format.specs.Whole.{Table, ledgers, counted, version, id_of, edition_of, ledger_read}
 use Rattle.format.specs.Convert.{lossless, converted}
-use Rattle.ledger_reader.specs.declared.Measured.{Measured}
-use Rattle.ledger_converter.specs.Plans.{Appended}
-use Rattle.ledger_converter.specs.Measure.{convert_measure}
+use Rattle.runs.specs.Appended.{Appended, LedgerLaid}
 
 -- plans behind their count, all of a ledger
 pub record PlansThere (ed : Edition) (l : List ℕ) : Type 0 where
@@ -30,32 +28,10 @@ pub record Plans (from ed : Edition) (l out out' : List ℕ) (r : Result ℕ Ref
       → counted from (length l) beamhopping (value 256 (take 2 (drop 4 l))) (drop 6 l) ≡ got es []
       → PlansIn ed es l out out' r
 
--- a ledger is read, in its edition
-pub record ReadAs (from : Edition) (id : ℕ) (l : List ℕ) : Type 0 where
-  pub table : Table
-  pub reads : ledger_read l ≡ got table []
-  pub edition : from ≡ edition_of l
-  pub named : id ≡ id_of l
-  pub four : 4 ≤ length l
-  pub short : length l ≤ 65537
-
 -- what stands behind the table id once it is converted, laid behind four bytes, or the refusal
-pub record Laid (ed : Edition) (l out out' : List ℕ) (n : ℕ) : Type 0 where
-  pub content : List ℕ
-  pub is : converted ed l ≡ got (digits 256 2 (length content + 2) ++ (version ed ∷ id_of l ∷ content)) []
-  pub appended : Appended content 4 out out' n
-
 abbrev pub ContentIn : Edition → List ℕ → List ℕ → List ℕ → Result ℕ Refusal → Type 0
-ContentIn ed l out out' (Ok n) = Laid ed l out out' n
+ContentIn ed l out out' (Ok n) = LedgerLaid ed (id_of l) (converted ed l) out out' n
 ContentIn ed l out out' (Err f) = converted ed l ≡ refused f.fault f.need f.have
 
 pub record Content (ed : Edition) (l out out' : List ℕ) (r : Result ℕ Refusal) : Type 0 where
   pub to : ContentIn ed l out out' r
-
--- the measure with the edition that the ledger has beside it
-abbrev pub MeasuresTo : Edition → List ℕ → Result Measured Refusal → Type 0
-MeasuresTo ed l (Ok m) = ReadAs m.edition m.output.table_id l × (Ok m.output ≡ convert_measure ed l)
-MeasuresTo ed l (Err f) = Err f ≡ convert_measure ed l
-
-pub record Measures (ed : Edition) (l : List ℕ) (r : Result Measured Refusal) : Type 0 where
-  pub to : MeasuresTo ed l r

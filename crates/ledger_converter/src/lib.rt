@@ -3,20 +3,21 @@
 // is lent. Under every id but 3 the content is the same in either edition, and is copied.
 #![tactic(auto)]
 
-ghost use Rattle.std.specs.Prelude.{◌≡◌, ◌+◌, ◌≤◌, ◌<◌, length, take, drop};
-ghost use Rattle.format.specs.Digits.{digits};
+ghost use Rattle.std.specs.Prelude.{◌≡◌, ◌+◌, ◌≤◌, length};
 ghost use Rattle.format.specs.declared.Edition.TheVariants.{First, Second};
-ghost use Rattle.format.specs.Convert.{convert_answer, convert_left};
+ghost use Rattle.format.specs.Convert.{converted, convert_answer, convert_left};
+ghost use Rattle.runs.specs.Appended.{Appended};
+ghost use Rattle.ledger_reader.specs.Measured.{ReadAs, Makes};
 ghost use Rattle.ledger_converter.specs.Measure.{convert_measure};
-ghost use Rattle.ledger_converter.specs.Plans.{Appended, bytes_in, has_all, FieldsAt, PlanThere, PlanAt};
-ghost use Rattle.ledger_converter.specs.Steps.{PlansThere, Plans, ReadAs, Content, Measures};
+ghost use Rattle.ledger_converter.specs.Plans.{bytes_in, has_all, FieldsAt, PlanThere, PlanAt};
+ghost use Rattle.ledger_converter.specs.Steps.{PlansThere, Plans, Content};
 
-use bits::{get_be, put_be};
+use bits::get_be;
 use format::{Edition, Fault, Output, Refusal, fitted};
 use ledger_reader::{Measured, measure};
 use read_plans::read_hopping;
 use read_runs::Step;
-use runs::copy_bytes;
+use runs::{append, append_pair};
 
 // The bytes of a plan in front of its length: its id and reserved bits.
 const HEAD: usize = 5;
@@ -39,29 +40,6 @@ struct Plan<'a> {
     fields: Fields<'a>,
     filler: &'a [u8],
     next: usize,
-}
-
-// Stores bytes at a place where there is room for all of them; the place behind them.
-fn append(bytes: &[u8], out: &mut [u8], at: usize) -> usize
-    requires { (at ≤ 1000000) × (length bytes.now ≤ 65537) }
-    ensures { Appended bytes.now at out.old out.new result }
-{
-    let start = at.min(out.len());
-    copy_bytes(bytes, &mut out[start..]);
-    at + bytes.len()
-}
-
-// Stores a number in two bytes at a place where there is room for them; the place behind them.
-fn append_pair(v: u64, out: &mut [u8], at: usize) -> usize
-    requires { at ≤ 1000000 }
-    ensures appended { Appended (digits 256 2 v) at out.old out.new result }
-    ensures two { result ≡ at + 2 }
-{
-    let behind = at + 2;
-    if behind <= out.len() {
-        put_be(out, at, 2, v);
-    }
-    behind
 }
 
 // A plan's fields, from a place of a ledger on. They are read as the ledger reader reads them, with nothing stored.
@@ -206,7 +184,7 @@ fn convert_content(
 
 // The edition that a ledger has, its table id, and its length in the edition that is wanted; or the refusal.
 fn measure_in(edition: Edition, ledger: &[u8]) -> Result<Measured, Refusal>
-    ensures { Measures edition ledger.now result }
+    ensures { Makes ledger.now (converted edition ledger.now) result }
 {
     let held = measure(ledger)?;
     let table_id = held.output.table_id;

@@ -1,4 +1,5 @@
 pub mod MarkLaws
 pub mod Names
 pub mod Stores
+pub mod Appends
 pub mod FlagLaws

@@ -1,4 +1,5 @@
 pub mod Ends
 pub mod Lines
 pub mod Stored
+pub mod Appended
 pub mod Flagged

@@ -1,10 +1,14 @@
-// What both directions of the ledger share: what a field is, by its mark in a run of fields; bytes copied as they are.
+// What both directions of the ledger share: what a field is, by its mark in a run of fields; bytes copied as they are,
+// and laid one behind the other.
 #![tactic(auto)]
 
-ghost use Rattle.std.specs.Prelude.{◌≡◌, ◌%◌, ◌^◌, ◌<◌, T};
+ghost use Rattle.std.specs.Prelude.{◌≡◌, ◌+◌, ◌%◌, ◌^◌, ◌<◌, ◌≤◌, T, length};
+ghost use Rattle.format.specs.Digits.{digits};
 ghost use Rattle.runs.specs.Lines.{width_of, size_of, size_for, shown_of, mark_ok};
 ghost use Rattle.runs.specs.Stored.{stored};
+ghost use Rattle.runs.specs.Appended.{Appended};
 
+use bits::put_be;
 use marks::EXT;
 
 pub mod marks;
@@ -100,4 +104,27 @@ pub fn copy_bytes(bytes: &[u8], out: &mut [u8])
     if n <= out.len() {
         out[..n].copy_from_slice(bytes);
     }
+}
+
+// Stores bytes at a place where there is room for all of them; the place behind them.
+pub fn append(bytes: &[u8], out: &mut [u8], at: usize) -> usize
+    requires { (at ≤ 1000000) × (length bytes.now ≤ 65537) }
+    ensures { Appended bytes.now at out.old out.new result }
+{
+    let start = at.min(out.len());
+    copy_bytes(bytes, &mut out[start..]);
+    at + bytes.len()
+}
+
+// Stores a number in two bytes at a place where there is room for them; the place behind them.
+pub fn append_pair(v: u64, out: &mut [u8], at: usize) -> usize
+    requires { at ≤ 1000000 }
+    ensures appended { Appended (digits 256 2 v) at out.old out.new result }
+    ensures two { result ≡ at + 2 }
+{
+    let behind = at + 2;
+    if behind <= out.len() {
+        put_be(out, at, 2, v);
+    }
+    behind
 }

@@ -1,7 +1,7 @@
 -- `append_plan` lays the parts of a plan one behind the other.
 -- Assumes nothing.
 use native.Mathlib.Omega.{arith}
-use Rattle.ledger_converter.proofs.Appends.{also}
+use Rattle.runs.proofs.Appends.{also}
 use Rattle.ledger_converter.proofs.append_plan.Goals as goal
 
 pub append-end-requires : goal.append-end-requires

@@ -3,7 +3,7 @@
 use native.Mathlib.Omega.{arith}
 use Rattle.std.proofs.lemmas.List.{take_rest}
 use Rattle.format.proofs.DigitLaws.{below_of}
-use Rattle.ledger_converter.proofs.Appends.{named}
+use Rattle.runs.proofs.Appends.{named}
 use Rattle.ledger_converter.proofs.Contents.{plans_there, plans_in, same_in}
 use Rattle.ledger_converter.proofs.convert_content.Goals as goal
 

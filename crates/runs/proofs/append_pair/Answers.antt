@@ -1,7 +1,7 @@
 -- `append_pair` stores its two bytes where they have room.
 -- Assumes nothing.
-use Rattle.ledger_converter.proofs.Appends.{pair_fits, pair_short}
-use Rattle.ledger_converter.proofs.append_pair.Goals as goal
+use Rattle.runs.proofs.Appends.{pair_fits, pair_short}
+use Rattle.runs.proofs.append_pair.Goals as goal
 
 pub returns-then-behind-out-clause-appended : goal.returns-then-behind-out-clause-appended
 returns-then-behind-out-clause-appended c =

@@ -11,7 +11,7 @@ use Rattle.format.proofs.DigitLaws.{length_digits}
 use Rattle.bits.proofs.Splices.{length_splice, splice_nil, splice_splice, part_splice}
 use Rattle.runs.specs.Stored.{stored}
 use Rattle.runs.proofs.Stores.{stored_fits, stored_length}
-use Rattle.ledger_converter.specs.Plans.{Appended}
+use Rattle.runs.specs.Appended.{Appended}
 
 -- bytes copied to the start of a part that was lent from their place on, or from the buffer's end where that is past it
 pub append_part : (out xs part : List ℕ) (at start : ℕ) → start ≤ length out → (at ≤ length out → start ≡ at)

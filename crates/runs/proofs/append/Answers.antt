@@ -1,8 +1,8 @@
 -- `append` copies its bytes to the part of the buffer behind the place.
 -- Assumes nothing.
 use native.Mathlib.Omega.{arith}
-use Rattle.ledger_converter.proofs.Appends.{append_part}
-use Rattle.ledger_converter.proofs.append.Goals as goal
+use Rattle.runs.proofs.Appends.{append_part}
+use Rattle.runs.proofs.append.Goals as goal
 
 pub returns : goal.returns
 returns c =

@@ -1,0 +1,4 @@
+mod Satellites
+mod Standing
+mod Walking
+mod Copies
