@@ -211,7 +211,7 @@ def all_stored():
 
 
 def drawn(seed, count):
-    """Ledgers of id 4 and damaged ones; of one case in three also a ledger of another id, as before S-23, and damaged."""
+    """Ledgers of id 4 and damaged ones; with one case in three a ledger of another id, as before S-23, and damaged."""
     draw = random.Random(seed)
     for turn, case in enumerate(make(seed, count, any_extension=True)):
         given = made(draw)

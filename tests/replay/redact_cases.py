@@ -8,7 +8,7 @@ body of about 4,096 bytes or more, with their covariances or without them.
 from collections import namedtuple
 
 from edition_cases import content, few
-from edition_damage import damaged, number, other_version, replaced, righted, step
+from edition_damage import damaged, number, other_version, replaced, righted
 
 LISTED, FIRST_AT = 4, 16
 PART, PART_BODY = 92, 91
@@ -215,9 +215,9 @@ def aimed(draw, ledger):
     return righted(draw.choice(AIMED)(draw, ledger, first))
 
 
-def versions(draw, ledger, few_=3):
-    """A few damaged versions of a well formed ledger of id 4: at random, and aimed."""
-    found = [damaged(draw, ledger) for _ in range(few_)]
+def versions(draw, ledger):
+    """Damaged versions of a well formed ledger of id 4: three at random, and three aimed ones."""
+    found = [damaged(draw, ledger) for _ in range(3)]
     if ledger[14:16] != b"\0\0":
-        found += [aimed(draw, ledger) for _ in range(few_)]
+        found += [aimed(draw, ledger) for _ in range(3)]
     return found

@@ -1,13 +1,13 @@
-"""Wrong readings of S-31's refusals, of its lengths in refusals, and of what is copied whole: see redact_slips.py."""
+"""Wrong readings of S-31's refusals, and of what is copied whole; those of satellites are in redact_slips.py."""
 
-from moved import BYTES, LONGEST, NUMBER, Fault, Mover, Step
+from moved import BYTES, LONGEST, NUMBER, Fault, Mover, Step, size_of
 from without import ACCELERATION, COVARIANCE, FLAGS, LISTED, Copier, Noted, parts_of
 
 PART, PART_BODY = 92, 91
 
 
 def results(result):
-    """Another result for a ledger without fault: of the data, the right copy and the copier."""
+    """Another result for a ledger without fault: `result` is given the copier and the right copy."""
     class OtherResult(Copier):
         def result(self):
             return result(self, super().result())
@@ -15,7 +15,7 @@ def results(result):
 
 
 def rooms(too_small, values):
-    """Another test of the buffer, or other values of 22: each is asked with the ledger's length, the copy's, the room."""
+    """Another test of the buffer, or other values of 22: each of the ledger's length, the copy's, and the buffer's."""
     class OtherRoom(Copier):
         def in_room(self, found, room):
             if isinstance(found, Fault) or room is None:
@@ -40,7 +40,7 @@ def covered(copier):
     return sum(bool(parts_of(entry).covariance) for entry in copier.entries)
 
 
-def fault(*numbers):
+def refused(*numbers):
     raise Fault(*numbers)
 
 
@@ -48,7 +48,7 @@ class MeasuredOnTheCopy(Copier):
     """26 is of the copy's body."""
 
     def measured(self):
-        return super().measured() - 91 * covered(self)
+        return super().measured() - PART_BODY * covered(self)
 
 
 class NamesTheCopy(Copier):
@@ -58,7 +58,7 @@ class NamesTheCopy(Copier):
         self.front()
         self.content()
         if self.measured() > LONGEST:
-            raise Fault(26, self.measured() - 91 * covered(self), LONGEST)
+            raise Fault(26, self.measured() - PART_BODY * covered(self), LONGEST)
 
 
 class Unmeasured(Copier):
@@ -85,7 +85,7 @@ class MeasuredLast(Unmeasured):
 
 
 class MeasuredFirst(Copier):
-    """26 of all bytes as they are: a ledger longer than any is refused before its fields are read."""
+    """26 of the ledger's own bytes, before its fields are read."""
 
     def content(self):
         if len(self.data) > LONGEST:
@@ -120,7 +120,8 @@ class Untested(Noted):
     def taken(self, step):
         if not self.in_covariance():
             return super().taken(step)
-        return super().taken(Step(BYTES, 2 if step.size == 9 else step.size // 8 or 1))
+        self.bits += step.size - 8 * size_of(step)
+        return super().taken(Step(BYTES, size_of(step)))
 
 
 class ShortTaken(Noted):
@@ -144,13 +145,13 @@ class OverTaken(Copier):
         try:
             super().content()
         except Fault as fault:
-            if fault.number != 23 or self.table_id != LISTED or len(self.entries) * 12 + 16 > len(self.data) \
-                    or len(self.entries) != int.from_bytes(self.data[14:16], "big"):
+            all_read = len(self.data) > 15 and len(self.entries) == int.from_bytes(self.data[14:16], "big")
+            if fault.number != 23 or self.table_id != LISTED or not all_read:
                 raise
 
 
 def flags_read(places, value):
-    """These flags are not tested: `value` says what a byte of 2 or more is."""
+    """These flags are not tested: `value` is asked what a byte of 2 or more is."""
     class AnyFlag(Noted):
         def taken(self, step):
             if self.at_flag() not in places or self.data[self.at:self.at + 1] < b"\2":
@@ -275,9 +276,9 @@ FAULTS = {
     "other ids unread": UnreadFront,
     "28 never": Unfitted,
     "30 for an extension": SaysThirty,
-    "other ids refused": results(lambda one, found: found if one.table_id == LISTED else fault(31, one.table_id)),
-    "a ledger without covariance refused": results(lambda one, found: found if covered(one) else fault(31, 0)),
-    "raw ids refused": results(lambda one, found: found if one.table_id <= LISTED else fault(27, one.table_id)),
+    "other ids refused": results(lambda one, found: found if one.table_id == LISTED else refused(31, one.table_id)),
+    "a ledger without covariance refused": results(lambda one, found: found if covered(one) else refused(31, 0)),
+    "raw ids refused": results(lambda one, found: found if one.table_id <= LISTED else refused(27, one.table_id)),
 }
 
 WHOLE = {

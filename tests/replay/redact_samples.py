@@ -7,7 +7,8 @@ bits 29, day 30, fraction 32, values from 36 on; it has 92 bytes, 91 in the body
 A satellite without anything has 12 bytes, 6 in the body; an ephemeris entry has 32 or 44, and 31 or 43.
 """
 
-from convert_samples import FIRST_0, OPEN, RAW_2, REMARK, SATELLITE, shelf
+from convert_samples import FIRST_0, OPEN, RAW_2, REMARK, SATELLITE
+from convert_samples import shelf as first_plans
 from samples import CLOCK, HEADER, P3_LINE, TIME, cell_listed, clocks_listed, listed
 from samples_2 import DWELLS, EXACT, SAME, entry, plans
 
@@ -46,7 +47,8 @@ def observed(count):
 
 def seen(metadata, start, stop, faster, covariance, count=1):
     """A satellite with these flags and what belongs to them."""
-    behind = (METADATA + START * start + STOP * stop) * metadata + f"{count:04x}" + (FASTER if faster else ENTRY) * count
+    behind = (METADATA + START * start + STOP * stop) * metadata
+    behind += f"{count:04x}" + (FASTER if faster else ENTRY) * count
     return NAMED + f"{metadata:02x}{start:02x}{stop:02x}{faster:02x}{covariance:02x}" + behind + COVARIANCE * covariance
 
 
@@ -106,7 +108,8 @@ WITHIN = [
     *refused("a byte less", listed(4, SAID + "00 00 00 00 01" + NONE + EPOCH + VALUES[:166], 2), "R 23 116 0"),
     *refused("reserved bits of 128", filed(1, BARE[:-6] + "01" + NONE + "1f 80 0137" + "00" * 88), "R 25 29 0"),
     *refused("day 512", filed(2, BARE[:-6] + "01" + NONE + "1f 3d 0200" + "00" * 88), "R 25 30 0"),
-    *refused("day 512, the second", filed(1, COVERED, BARE[:-6] + "01" + NONE + "1f 3d ffff" + "00" * 88), "R 25 134 0"),
+    *refused("day 65,535, the second", filed(1, COVERED, BARE[:-6] + "01" + NONE + "1f 3d ffff" + "00" * 88),
+             "R 25 134 0"),
     *refused("day 512, and the values missing", filed(1, BARE[:-6] + "01" + NONE + "1f 3d 0200"), "R 25 30 0"),
     *refused("reserved bits of 128, then a flag of 2", filed(2, BARE[:-6] + "01" + NONE + "1f 80 0137" + "00" * 88,
                                                              NAMED + "00 00 00 00 02" + NONE), "R 25 29 0"),
@@ -170,7 +173,8 @@ LONG = [
     *refused("body 4,187, copy's 4,096", small(2, observed(128), LOADED, *[LITTLE] * 18), "R 26 4187 4096"),
     *refused("body 4,197, copy's 4,106", small(1, observed(132)[:18] + "01" + observed(132)[20:] + ZEROS),
              "R 26 4197 4096"),
-    *refused("body 4,188, copy's 4,097", small(2, LOADED, observed(128), observed(1), *[LITTLE] * 12), "R 26 4188 4096"),
+    *refused("body 4,188, copy's 4,097", small(2, LOADED, observed(128), observed(1), *[LITTLE] * 12),
+             "R 26 4188 4096"),
     *refused("body 4,106 without covariance", small(2, observed(132)), "R 26 4106 4096"),
     *refused("body 4,179, and a byte over", listed(4, HEADER + "002b" + LOADED * 43 + "00"), "R 23 4488 0"),
     ("257 satellites, a covariance in the last", small(2, *[LITTLE] * 256, LOADED), small(2, *[LITTLE] * 257)),
@@ -188,7 +192,7 @@ OTHERS = [
     *kept("id 2, no flags", 2, "00 00" + CLOCK + TIME),
     *kept("id 2, flags", 2, "01 01 01 01 01" + CLOCK + TIME),
     *kept("id 2, 300", 2, "00 00" + clocks_listed(300) + TIME),
-    *alike("id 3, edition 1", shelf(2, FIRST_0, FIRST_0)),
+    *alike("id 3, edition 1", first_plans(2, FIRST_0, FIRST_0)),
     *alike("id 3, exact", plans(2, EXACT, RAW_2)),
     *alike("id 3, filler, and the last past the data", plans(2, REMARK, OPEN)),
     *alike("id 3, raw, past the data, filler", plans(1, entry(16, 3, "0000", "aabb"))),
@@ -201,7 +205,7 @@ OTHERS = [
     *refused("id 0, wide", listed(0, "0001 01" + SATELLITE[2:], 1), "R 25 6 0"),
     *refused("id 0, a byte over", listed(0, "0001" + SATELLITE + "00", 2), "R 23 16 0"),
     *refused("id 2, cut", listed(2, "00 00" + CLOCK, 1), "R 23 17 0"),
-    *refused("id 3, slot bit", shelf(1, "00000000 00 00 01" + CLOCK * 2 + "00 0003 00 0002 f0"), "R 25 41 0"),
+    *refused("id 3, slot bit", first_plans(1, "00000000 00 00 01" + CLOCK * 2 + "00 0003 00 0002 f0"), "R 25 41 0"),
     *refused("id 3, 24", plans(1, entry(24, 0, DWELLS)), "R 28 61 0"),
     *refused("id 3, 26, not the last", plans(2, OPEN, EXACT), "R 28 61 0"),
     *refused("id 3 under version 3", plans(1, EXACT)[:4] + "03" + plans(1, EXACT)[6:], "R 24 2 0"),
