@@ -46,6 +46,7 @@ shed_good (s_off x y) (g_no r) = g_no (shed_good y r)
 shed_good (s_need a w x m) (g_need _ _ _ r) = let r' = shed_good x r in g_need a w (least w r' m) r'
 shed_good (s_less a w x) (g_need _ _ _ r) = shed_good x r
 
+-- so they are before the descriptions had their tests
 shed_before : {s s' : Syntax} → Shed s s' → Shed (before s) (before s')
 shed_before s_end = s_end
 shed_before (s_field g nm w o x) = s_field g nm w o (λ v. shed_before (x v))
@@ -58,6 +59,7 @@ shed_before (s_less a w x) = s_less a w (shed_before x)
 
 -- ---- the satellite's
 
+-- lines that are neither the flag nor the part
 shed_u : (nm : Name) (w : ℕ) {s s' : Syntax} → Ordinary nm → Shed s s' → Shed (u nm w s) (u nm w s')
 shed_u nm w o x = s_field unsigned nm w o (λ _. x)
 
@@ -138,6 +140,7 @@ shed_metadata start stop {s} {s'} x =
     (λ _ _ _ _ _ _ _ _ _ _ _ _.
     least_zero (usable UsableStartCut "usable_start_time" start (usable UsableStopCut "usable_stop_time" stop s')))
 
+-- the flag, and all that depends on it
 shed_position3 : Shed position3 position3
 unfolding position3 is_part is_flag
 shed_position3 =
@@ -149,6 +152,7 @@ shed_position3 =
     s_flag unsigned "covariance_flag" 1 refl refl (λ cov.
     s_when (shed_metadata start stop (shed_ephemerides accel cov)) (shed_ephemerides accel cov))))))))
 
+-- hence of a satellite's fields, now and before
 pub redact_good : {l i : Bool} {ts : List Field} → Good l i position3 ts → Good l i position3 (redact ts)
 redact_good r = shed_good shed_position3 r
 

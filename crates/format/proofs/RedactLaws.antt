@@ -3,6 +3,7 @@
 -- Assumes nothing.
 use mathlib.Core.Path.{◌≡◌, sym, ap, ap₂, ◌∙◌, subst}
 use mathlib.Core.Bool.{Bool, cond}
+use mathlib.Core.Logic.{◌↔◌}
 use mathlib.Core.List.{List, []}
 use Prim.Native.Nat.{ℕ, ◌≤◌}
 use lib.ListN.{length}
@@ -176,3 +177,27 @@ same_copies {l} {l'} s h h' =
     (ap (ledger_of (edition_of l) i) (under_same i (good l t h s.reads) g' o)
     ∙ ap₂ (λ (x : Edition) (k : ℕ). ledger_of x k (satellites redact k t')) s.edition s.id)
     ∙ sym (copy_is l' t' s.reads')
+
+-- and only of such: where the first is read, the copies are the same exactly if the ledgers differ only so
+pub same_exactly : (l l' : List ℕ) → Below 256 l → Below 256 l'
+    → SameOthers l l' ↔ ((t : Table) × (ledger_read l ≡ got t []) × (redacted l ≡ redacted l'))
+same_exactly l l' h h' = (λ s. (s.table, s.reads, same_copies s h h'), λ r. back r.0 r.1 r.2)
+  where
+    back : (t : Table) → ledger_read l ≡ got t [] → redacted l ≡ redacted l' → SameOthers l l'
+    back t e q =
+        let r = accepted_copy l h (copy_is l t e) in
+        let r' = accepted_copy l' h' (sym q ∙ copy_is l t e) in
+        let same : satellites redact (id_of l) r.table ≡ satellites redact (id_of l') r'.table =
+        inj (sym r.again ∙ r'.again) in
+        let i : id_of l ≡ id_of l' = sym r.id ∙ r'.id in
+        record {
+          table = r.table;
+          table' = r'.table;
+          reads = r.reads;
+          reads' = r'.reads;
+          id = i;
+          edition = sym r.edition ∙ r'.edition;
+          rest =
+              sym (under_others (id_of l) r.table)
+              ∙ ap₂ (λ (k : ℕ) (u : Table). satellites others k u) i same ∙ under_others (id_of l') r'.table;
+        }

@@ -49,6 +49,7 @@ only_part t ts f h =
     go true = h
     go false = ap (λ (xs : List Field). t ∷ xs) h
 
+-- so that what is left are the others
 noflag : {l i : Bool} {s : Syntax} {ts : List Field} → NoFlag s → Good l i s ts → redact ts ≡ others ts
 noflag p g_end = unfold redact others in refl
 noflag p (g_field g nm w k v {ts} _ _ r) = only_part (num g nm w v) ts p.0 (noflag (p.1 v) r)
@@ -78,6 +79,7 @@ flag_before : {n : ℕ} {s : Syntax} → FlagAt n s → FlagAt n (before s)
 flag_before (here {k} x) = here (λ v. noflag_before (k v) (x v))
 flag_before (behind g nm w n o x) = behind g nm w n o (λ v. flag_before (x v))
 
+-- then what is left are the others and that flag
 flag_at : {l i : Bool} {n : ℕ} {s : Syntax} {ts : List Field} → FlagAt n s → Good l i s ts
     → redact ts ≡ insert n (others ts)
 unfolding is_part is_flag
@@ -129,6 +131,7 @@ noflag_metadata start stop s h =
     (free (free (free (free last))), last) in
     free (free (free (free (free (free (free (free (free (free (free (free both)))))))))))
 
+-- behind the flag there is none
 noflag_rest : (meta start stop accel cov : ℕ)
     → NoFlag (when (eqb meta 1) (metadata start stop (ephemerides accel cov)) (ephemerides accel cov))
 noflag_rest meta start stop accel cov =
@@ -182,6 +185,7 @@ clean_flag : Clean (num unsigned "covariance_flag" 1 0)
 unfolding is_part
 clean_flag = record { no_part = refl; zero_flag = λ _. refl }
 
+-- the others are so, and stay so with the flag among them
 clean_insert : (n : ℕ) (ts : List Field) → All Clean ts → All Clean (insert n ts)
 clean_insert zero ts h = All-cons Clean (num unsigned "covariance_flag" 1 0) ts clean_flag h
 clean_insert (suc n) [] h = All-nil Clean
@@ -192,6 +196,7 @@ clean_others : (ts : List Field) → All Clean (others ts)
 unfolding others
 clean_others ts = clean_all (others ts) (filter_passes (λ (t : Field). not (is_part (name t) || is_flag (name t))) ts)
 
+-- and so is each field of a satellite without covariance
 pub redact_clean : {l i : Bool} {ts : List Field} → Good l i (before position3) ts → All Clean (redact ts)
 redact_clean {ts = ts} r =
     subst (λ (us : List Field). All Clean us) (sym (with_flag r)) (clean_insert 6 (others ts) (clean_others ts))

@@ -33,12 +33,14 @@ use Rattle.format.proofs.RedactOthers.{same_redact, Clean, redact_clean}
 
 -- ---- entries
 
+-- each is one that its description allows
 all_redacted : (s : Syntax) → ((l i : Bool) (ts : List Field) → Good l i s ts → Good l i s (redact ts))
     → (es : List (List Field)) → AllGood s es → AllGood s (map redact es)
 all_redacted s k [] g = tt
 all_redacted s k (ts ∷ es) g =
     (rw (length-map es redact) (k (eqb (length es) 0) false ts g.0), all_redacted s k es g.1)
 
+-- together they take no more room, in a kept body or a ledger
 laids_shorter : (es : List (List Field)) → length (laids Second (map redact es)) ≤ length (laids Second es)
 unfolding laids
 laids_shorter [] = omega arith
@@ -63,6 +65,7 @@ ledgers_shorter ed (ts ∷ es) =
       ledgers_shorter ed es,
     )
 
+-- once is enough, and all else is kept
 entries_redact_again : (es : List (List Field)) → map redact (map redact es) ≡ map redact es
 entries_redact_again [] = refl
 entries_redact_again (ts ∷ es) =
@@ -73,6 +76,7 @@ entries_others [] = refl
 entries_others (ts ∷ es) =
     ap₂ (λ (x : List Field) (y : List (List Field)). x ∷ y) (others_kept ts) (entries_others es)
 
+-- entries whose other fields are the same are the same without covariance
 entries_same : (es us : List (List Field)) → AllGood (before position3) es → AllGood (before position3) us
     → map others es ≡ map others us → map redact es ≡ map redact us
 entries_same [] [] g q e = refl
@@ -85,6 +89,7 @@ entries_same (ts ∷ es) (us ∷ fs) g q e =
     let b : map others es ≡ map others fs = cc in
     ap₂ (λ (x : List Field) (y : List (List Field)). x ∷ y) (same_redact g.0 q.0 a) (entries_same es fs g.1 q.1 b)
 
+-- nothing of covariance is left in any
 entries_clean : (es : List (List Field)) → AllGood (before position3) es
     → All (λ (ts : List Field). All Clean ts) (map redact es)
 entries_clean [] g = All-nil (λ (ts : List Field). All Clean ts)
@@ -93,6 +98,7 @@ entries_clean (ts ∷ es) g =
 
 -- ---- tables of satellites
 
+-- the layout allows them, now and before
 good_each : {t : Table} → GoodTable (layout 4) t → GoodTable (layout 4) (each redact t)
 good_each (good_list {es = es} g gs) = good_list g (all_redacted position3 (λ _ _ _. redact_good) es gs)
 
@@ -101,6 +107,7 @@ good_each_before : {t : Table} → GoodTable (layout_before (layout 4)) t
 good_each_before (good_list {es = es} g gs) =
     good_list g (all_redacted (before position3) (λ _ _ _. redact_good_before) es gs)
 
+-- they take no more room
 kept_size : (t : Table) → length (kept_of (each redact t)) ≤ length (kept_of t)
 unfolding body_of
 kept_size (one ts) = omega arith
@@ -135,6 +142,7 @@ content_size ed (list hs es) =
       ledgers_shorter ed es,
     )
 
+-- once is enough, all else is kept, and the other fields alone decide them
 each_again : (t : Table) → each redact (each redact t) ≡ each redact t
 each_again (one ts) = refl
 each_again (as_it_is b) = refl
@@ -154,6 +162,7 @@ each_same (good_list {es = es} g gs) (good_list {es = es'} q qs) e =
     let a = list_parts e in
     ap₂ list a.0 (entries_same es es' gs qs a.1)
 
+-- nothing of covariance is left
 pub each_clean : {t : Table} → GoodTable (layout_before (layout 4)) t
     → All (λ (ts : List Field). All Clean ts) (entries_of (each redact t))
 unfolding entries_of
@@ -172,6 +181,7 @@ four_as l {b} {t} x k p =
     let g = accepted_good x p in
     good_accepted l 4 x p.byte (k t g.0) (omega (arith, kept_size t, g.1, g.2))
 
+-- so of any table: under another id it is the table itself; before S-23, and now
 pub under : (id : ℕ) {b : List ℕ} {t : Table} → AcceptedBefore id b t
     → AcceptedBefore id (kept_of (satellites redact id t)) (satellites redact id t)
 unfolding satellites
@@ -209,6 +219,7 @@ under_form id ed t g f = go (eqb id 4) refl
     go true e = four (subst (λ (j : ℕ). GoodTable (layout_before (layout j)) t) (eqb-true id 4 e) g)
     go false e = f
 
+-- the ledger is no longer
 ledger_size : (ed : Edition) (id : ℕ) (t : Table) → length (ledger_of ed id t) ≡ 4 + length (content_of ed t)
 unfolding ledger_of
 ledger_size ed id t =
@@ -224,6 +235,7 @@ under_size id ed t = go (eqb id 4)
     go true = omega (arith, ledger_size ed id t, ledger_size ed id (each redact t), content_size ed t)
     go false = omega arith
 
+-- once is enough
 pub under_again : (id : ℕ) (t : Table) → satellites redact id (satellites redact id t) ≡ satellites redact id t
 unfolding satellites
 under_again id t = go (eqb id 4)

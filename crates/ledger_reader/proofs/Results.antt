@@ -122,9 +122,9 @@ module _ {m o : Output} (id : ℕ) (out : List ℕ) (p : Parse (List ℕ)) (e : 
   never q = let r = room_for id out p e fit in absurd (got_not_refused (sym r.is ∙ q))
 
   -- a ledger has its first four bytes
-  pub four : {ed : Edition} {c : List ℕ} → p ≡ got (digits 256 2 (length c + 2) ++ (version ed ∷ id ∷ c)) []
+  pub four : (ed : Edition) (c : List ℕ) → p ≡ got (digits 256 2 (length c + 2) ++ (version ed ∷ id ∷ c)) []
       → 4 ≤ o.length
-  four {ed} {c} q =
+  four ed c q =
       let r = room_for id out p e fit in
       let d : List ℕ = digits 256 2 (length c + 2) in
       omega (arith, r.size, ap length (one_result r.is q), length-append d (version ed ∷ id ∷ c), length_digits 256 2 (length c + 2))

@@ -1,7 +1,7 @@
 -- What is known of a ledger's copy without covariance, for the calls.
 -- Assumes nothing.
 use Prim.Native.Nat.{ℕ, ◌+◌, ◌≤◌}
-use mathlib.Core.Path.{◌≡◌, sym, ap, ◌∙◌}
+use mathlib.Core.Path.{◌≡◌, sym, ap, ◌∙◌, subst}
 use mathlib.Core.List.{List, [], ◌∷◌, ◌++◌}
 use native.Mathlib.Omega.{arith}
 use lib.ListN.{length, drop}
@@ -9,6 +9,7 @@ use lib.Seq.{take_at, length-take-le}
 use Rattle.std.specs.Prelude.{Ok}
 use Rattle.format.specs.Digits.{digits, Below}
 use Rattle.format.specs.Syntax.{Parse, got}
+use Rattle.format.specs.declared.Edition.{Edition}
 use Rattle.format.specs.declared.Output.{Output}
 use Rattle.format.specs.Whole.{content_of, version, ledger_of, id_of, edition_of, ledger_read}
 use Rattle.format.specs.Calls.{Fitted}
@@ -19,6 +20,10 @@ use Rattle.runs.specs.Appended.{Appended, LedgerLaid}
 use Rattle.runs.proofs.Appends.{named}
 use Rattle.ledger_reader.specs.Measured.{measured, ReadAs}
 use Rattle.ledger_reader.proofs.Results as results
+
+-- the edition that is known is the ledger's own
+pub in_its_own : {ed : Edition} {id : ℕ} {l : List ℕ} → ReadAs ed id l → ReadAs (edition_of l) id l
+in_its_own {id = id} {l} w = subst (λ (ed : Edition). ReadAs ed id l) w.edition w
 
 -- under another id the content is laid as it is
 pub whole_copy : {id : ℕ} {l out out' : List ℕ} {n : ℕ} → Below 256 l → ReadAs (edition_of l) id l → (id ≡ 4 → ⊥)
@@ -36,9 +41,9 @@ whole_copy {id} {l} b w h a =
     }
 
 -- a copy has its first four bytes
-pub four : {id : ℕ} {m o : Output} (l out : List ℕ) → ReadAs (edition_of l) id l → Ok m ≡ measured (id_of l) (redacted l)
+pub four : {ed : Edition} {id : ℕ} {m o : Output} (l out : List ℕ) → ReadAs ed id l → Ok m ≡ measured (id_of l) (redacted l)
     → Fitted m.table_id m.length (length out) (Ok o) → 4 ≤ o.length
 unfolding ledger_of
 four l out w e fit =
-    let ed = edition_of l in
-    results.four (id_of l) out (redacted l) e fit {ed} {content_of ed (satellites redact (id_of l) w.table)} (copy_is l w.table w.reads)
+    let c : List ℕ = content_of (edition_of l) (satellites redact (id_of l) w.table) in
+    results.four (id_of l) out (redacted l) e fit (edition_of l) c (copy_is l w.table w.reads)

@@ -1,4 +1,5 @@
 mod Satellites
+mod Sizes
 mod Standing
 mod Walking
 mod Copies

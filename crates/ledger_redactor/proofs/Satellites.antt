@@ -330,21 +330,23 @@ satellite {ts = ts} ed r =
           ∙ ap (λ (y : List ℕ). e.v ∷ y) (flag_kept ed "ephemeris_accel_flag" f.is f.small (refl, refl)
           ∙ ap (λ (y : List ℕ). f.v ∷ y) (ap (λ (y : List Field). ledger ed (redact y)) g.is
           ∙ ap (ledger ed) (redact_by (num unsigned "covariance_flag" 1 g.v) g.us false true refl refl)
-          ∙ flag_byte ed "covariance_flag" {0} {num unsigned "covariance_flag" 1 0 ∷ redact g.us} {redact g.us} refl (omega arith)
+          ∙ flag_byte ed "covariance_flag" {v = 0} {ts = num unsigned "covariance_flag" 1 0 ∷ redact g.us} {us = redact g.us} refl (omega arith)
           ∙ ap (λ (y : List ℕ). 0 ∷ y) x.keeps_is))))))
           ∙ sym (append_assoc ia ib (c.v ∷ d.v ∷ e.v ∷ f.v ∷ 0 ∷ kept));
     }
 
 -- ---- the header is ten bytes
 
-pub header_size : {l i : Bool} {hs : List Field} (ed : Edition) → Good.Good l i (before header) hs → length (ledger ed hs) ≡ 10
+nothing : {l i : Bool} {vs : List Field} {b : List ℕ} (ed : Edition) (us : List Field) → Good.Good l i end vs
+    → b ≡ ledger ed us ++ ledger ed vs → length (ledger ed us) ≡ 10 → length b ≡ 10
+unfolding ledger
+nothing ed us Good.g_end e n = ap length (e ∙ append-nil (ledger ed us)) ∙ n
+
+pub header_size : {l i : Bool} {hs : List Field} (ed : Edition) → Good.Good l i (before header) hs
+    → length (ledger ed hs) ≡ 10
 unfolding header is_part is_flag
 header_size ed g =
     let x : Over 10 header end = needing BodyEmpty 1 (needing HeaderCut 64 (over_u "oem_version_major" 4 (refl, refl) (over_u "oem_version_minor" 4 (refl, refl)
     (over_stamp "creation_date" (refl, refl) (refl, refl) (refl, refl) (refl, refl) at_once)))) in
     let f = front ed (over_before x) g in
-    nothing ed f.good f.is f.size
-  where
-    nothing : {l i : Bool} {us vs : List Field} {b : List ℕ} (ed : Edition) → Good.Good l i end vs → b ≡ ledger ed us ++ ledger ed vs → length (ledger ed us) ≡ 10 → length b ≡ 10
-    unfolding ledger
-    nothing {us = us} ed Good.g_end e n = ap length (e ∙ append-nil (ledger ed us)) ∙ n
+    nothing ed f.us f.good f.is f.size
