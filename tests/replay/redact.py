@@ -112,6 +112,7 @@ def listed_tests(given, there):
         "all else kept": with_covariances(there, covariances) == given,
         "a covariance's bytes less for each": len(there) == len(given) - PART * sum(map(bool, covariances)),
         "the body's length": len(body) == body_length(bare(satellites)),
+        "the ledger of a body that is accepted now": ledger(LISTED, body, there[2]) == there,
         "the length's bound": len(there) <= 6 + 2 * len(body),
         "the same in the other edition": answer(given[:2] + turned + given[3:])
                                          == (there[:2] + turned + there[3:]).hex(),
