@@ -23,7 +23,7 @@ static uint8_t *fenced(size_t size)
     return p + SPAN;
 }
 
-/* the reader and the two ways between the editions take no table id: a ledger names its own */
+/* the calls that take a ledger take no table id: a ledger names its own */
 #define OF_A_LEDGER(call)                                                                        \
     static uint32_t call##_(uint8_t id, const uint8_t *in, size_t n, uint8_t *out, size_t room)  \
     {                                                                                            \
@@ -54,6 +54,7 @@ static uint8_t *fenced(size_t size)
 OF_A_LEDGER(sat_ledger_read)
 OF_A_LEDGER(sat_ledger_to_edition_1)
 OF_A_LEDGER(sat_ledger_to_edition_2)
+OF_A_LEDGER(sat_ledger_without_covariance)
 
 /* the ids are 32-bit units; 22, and the lengths, count these */
 static uint32_t ids(uint8_t id, const uint8_t *in, size_t n, uint8_t *out, size_t room)
@@ -84,6 +85,9 @@ static const Call
             sat_ledger_to_edition_1_have_, sat_ledger_to_edition_1_length_, sat_ledger_to_edition_1_table_id_},
     TO_2 = {"sat_ledger_to_edition_2", 1, SAT_LEDGER_MAX, sat_ledger_to_edition_2_, sat_ledger_to_edition_2_need_,
             sat_ledger_to_edition_2_have_, sat_ledger_to_edition_2_length_, sat_ledger_to_edition_2_table_id_},
+    WITHOUT = {"sat_ledger_without_covariance", 1, SAT_LEDGER_MAX, sat_ledger_without_covariance_,
+               sat_ledger_without_covariance_need_, sat_ledger_without_covariance_have_,
+               sat_ledger_without_covariance_length_, sat_ledger_without_covariance_table_id_},
     PLAIN = {"sat_plain_body", 1, SAT_LEDGER_MAX, sat_plain_body, sat_plain_body_need, sat_plain_body_have,
              sat_plain_body_length, sat_plain_body_table_id},
     KEPT = {"sat_kept_body", 1, SAT_LEDGER_MAX, sat_kept_body, sat_kept_body_need, sat_kept_body_have,

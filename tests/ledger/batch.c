@@ -13,6 +13,8 @@
  * batch to-1-2    a line is a ledger; it goes to edition 1, and the result to edition 2
  * batch to-2-1    the same the other way round
  * batch ids [N]   a line is a table id and a body; the answer is 'ids' and the entries' ids, in a buffer of N (4,096)
+ * batch without-covariance [N]     a line is a ledger; the answer is its copy, in a buffer of N bytes (8,198)
+ * batch without-covariance-twice   the same, and the copy is copied in turn
  *
  * A refusal is 'R number need have'; an empty line gives 'no input', but is an empty ledger where a line is a ledger.
  * Input and buffer end at unreadable pages. A result is asked for with just enough room, and with a unit less, which 22
@@ -129,12 +131,18 @@ typedef struct {
 static const Way WAYS[] = {{"write", &WRITE, NULL}, {"write-2", &WRITE_2, NULL}, {"plain", &PLAIN, NULL},
                            {"kept", &KEPT, NULL}, {"back", &WRITE, &READ}, {"back-2", &WRITE_2, &READ},
                            {"read", &READ, NULL}, {"ids", &IDS, NULL}, {"to-1", &TO_1, NULL}, {"to-2", &TO_2, NULL},
-                           {"to-1-2", &TO_1, &TO_2}, {"to-2-1", &TO_2, &TO_1}};
+                           {"to-1-2", &TO_1, &TO_2}, {"to-2-1", &TO_2, &TO_1},
+                           {"without-covariance", &WITHOUT, NULL}, {"without-covariance-twice", &WITHOUT, &WITHOUT}};
+
+/* Whether a line is a ledger, not a table id and a body. */
+static int of_ledgers(const Call *f) {
+    return f == &READ || f == &TO_1 || f == &TO_2 || f == &WITHOUT;
+}
 
 static void one_case(const Way *way, size_t n, size_t room) {
     const Call *f = way->call;
     const uint8_t *in = in_area + LONGEST - n;
-    size_t size, front = f != &READ && f != &TO_1 && f != &TO_2;
+    size_t size, front = !of_ledgers(f);
     if (front && n == 0) {
         puts("no input");
         return;
@@ -160,9 +168,12 @@ int main(int argc, char **argv) {
             way = &WAYS[i];
     char *end = "";
     size_t room = argc == 3 ? strtoul(argv[2], &end, 10) : way != NULL ? way->call->most : 0;
-    int is_ids = way != NULL && way->call == &IDS;
-    if (way == NULL || argc > 2 + is_ids || *end != '\0' || end == argv[argc - 1] || room > way->call->most) {
-        fputs("use: batch write|write-2|plain|kept|back|back-2|read|to-1|to-2|to-1-2|to-2-1|ids [N] < cases\n", stderr);
+    int with_room = way != NULL && way->then == NULL && (way->call == &IDS || way->call == &WITHOUT);
+    if (way == NULL || argc > 2 + with_room || *end != '\0' || end == argv[argc - 1] || room > way->call->most) {
+        fputs("use: batch WAY [N] < cases, with N for ids and without-covariance alone; the ways are", stderr);
+        for (size_t i = 0; i < sizeof WAYS / sizeof *WAYS; i++)
+            fprintf(stderr, " %s", WAYS[i].word);
+        fputc('\n', stderr);
         return 2;
     }
     in_area = fenced(LONGEST);

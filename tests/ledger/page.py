@@ -3,6 +3,7 @@
 
 Use: page.py read < LEDGERS          one line of hexadecimal each; prints the table id and the body (the plain one from
                                      edition 1, the kept one from edition 2), or 'R number need have'
+     page.py without < LEDGERS       the same of their copies without covariance, of which the body is laid out at once
      page.py damage SEED < LEDGERS   prints each ledger several times over, damaged in one place or two
 """
 
@@ -21,12 +22,15 @@ def size_of(width):
 
 
 class Page:
-    """Goes through a ledger field by field and keeps the bits of the body as texts of 0 and 1."""
+    """Goes through a ledger field by field and keeps the bits of the body as texts of 0 and 1.
 
-    def __init__(self, ledger):
+    If it is asked to be bare, covariances are not among these, and their flags are 0.
+    """
+
+    def __init__(self, ledger, bare=False):
         self.ledger, self.at, self.bits = ledger, 4, []
         self.edition = ledger[2]
-        self.in_last_entry = False
+        self.in_last_entry, self.bare = False, bare
 
     def chunk(self, size):
         if len(self.ledger) - self.at < size:
@@ -164,6 +168,7 @@ class Page:
     def entry_4(self):
         self.u(24, 3)
         meta, start, stop, accel, cov = (self.u(1) for _ in range(5))
+        self.bits[-1] = "0" if self.bare else self.bits[-1]
         if meta == 1:
             self.stamp(2)
             self.u(1, 1, 3, 3)
@@ -171,9 +176,12 @@ class Page:
         for _ in range(self.u(16)):
             self.stamp()
             self.u(*[32] * (9 if accel else 6))
+        mark = len(self.bits)
         if cov == 1:
             self.stamp()
             self.u(*[32] * 21)
+        if self.bare:
+            del self.bits[mark:]
 
     def content(self, table_id):
         if table_id == 2:
@@ -206,9 +214,15 @@ def read(ledger):
     return f"{table_id:02x}{body.hex()}"
 
 
-def answer(ledger):
+def without(ledger):
+    """The same of the copy without covariance: the faults are the ledger's own, and so is the body under other ids."""
+    line = read(ledger)
+    return f"04{Page(ledger, bare=True).content(4).hex()}" if ledger[3] == 4 else line
+
+
+def answer(ledger, reading=read):
     try:
-        return read(ledger)
+        return reading(ledger)
     except Refused as fault:
         return "R %d %d %d" % fault.args
 
@@ -239,9 +253,10 @@ def damaged(rng, ledger):
 
 def main():
     lines = (bytes.fromhex(line.strip()) for line in sys.stdin if not line.startswith(("R", "n")))
-    if sys.argv[1:] == ["read"]:
+    readings = {"read": read, "without": without}
+    if len(sys.argv) == 2 and sys.argv[1] in readings:
         for ledger in lines:
-            print(answer(ledger))
+            print(answer(ledger, readings[sys.argv[1]]))
     elif len(sys.argv) == 3 and sys.argv[1] == "damage":
         rng = random.Random(int(sys.argv[2]))
         for ledger in lines:
