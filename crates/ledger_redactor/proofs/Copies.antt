@@ -41,7 +41,8 @@ whole_copy {id} {l} b w h a =
     }
 
 -- a copy has its first four bytes
-pub four : {ed : Edition} {id : ℕ} {m o : Output} (l out : List ℕ) → ReadAs ed id l → Ok m ≡ measured (id_of l) (redacted l)
+pub four : {ed : Edition} {id : ℕ} {m o : Output} (l out : List ℕ) → ReadAs ed id l
+    → Ok m ≡ measured (id_of l) (redacted l)
     → Fitted m.table_id m.length (length out) (Ok o) → 4 ≤ o.length
 unfolding ledger_of
 four l out w e fit =
