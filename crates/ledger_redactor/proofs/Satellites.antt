@@ -118,7 +118,7 @@ over_stamp : {c : ℕ} (t : Name) {s r : Syntax} → Ordinary (text.◌++◌ t "
 over_stamp {c} t y z d f x =
     let e : 1 + (1 + (2 + (4 + c))) ≡ 8 + c = omega arith in
     resize e (over_u (text.◌++◌ t "_year") 8 y (over_u (text.◌++◌ t "_reserved_zero_future_use") 7 z (over_u
-        (text.◌++◌ t "_day") 9 d (over_u (text.◌++◌ t "_day_fraction") 32 f x))))
+    (text.◌++◌ t "_day") 9 d (over_u (text.◌++◌ t "_day_fraction") 32 f x))))
 
 over_motion : {c : ℕ} {s r : Syntax} → Over c s r → Over (32 + c) (motion s) r
 unfolding is_part is_flag
@@ -126,15 +126,19 @@ over_motion {c} x =
     let e : 8 + (4 + (4 + (4 + (4 + (4 + (4 + c)))))) ≡ 32 + c = omega arith in
     resize e (over_stamp "epoch" (refl, refl) (refl, refl) (refl, refl) (refl, refl)
     (over_u "ephemeris_x" 32 (refl, refl) (over_u "ephemeris_y" 32 (refl, refl) (over_u "ephemeris_z" 32 (refl, refl)
-    (over_u "ephemeris_x_dot" 32 (refl, refl) (over_u "ephemeris_y_dot" 32 (refl,
-        refl) (over_u "ephemeris_z_dot" 32 (refl, refl) x)))))))
+    (over_u "ephemeris_x_dot" 32 (refl, refl) (over_u "ephemeris_y_dot" 32 (
+      refl,
+      refl,
+    ) (over_u "ephemeris_z_dot" 32 (refl, refl) x)))))))
 
 over_acceleration : {c : ℕ} {s r : Syntax} → Over c s r → Over (12 + c) (acceleration s) r
 unfolding is_part is_flag
 over_acceleration {c} x =
     let e : 4 + (4 + (4 + c)) ≡ 12 + c = omega arith in
-    resize e (over_u "ephemeris_x_ddot" 32 (refl, refl) (over_u "ephemeris_y_ddot" 32 (refl,
-        refl) (over_u "ephemeris_z_ddot" 32 (refl, refl) x)))
+    resize e (over_u "ephemeris_x_ddot" 32 (refl, refl) (over_u "ephemeris_y_ddot" 32 (
+      refl,
+      refl,
+    ) (over_u "ephemeris_z_ddot" 32 (refl, refl) x)))
 
 -- an entry's size does not depend on what follows it
 entry_plus : (t : Bool) (c : ℕ) → cond t (44 + c) (32 + c) ≡ entry_size t + c
@@ -146,7 +150,7 @@ over_ephemeris : {c : ℕ} (accel : ℕ) {s r : Syntax} → Over c s r
 over_ephemeris {c} accel x =
     let e : 32 + (12 + c) ≡ 44 + c = omega arith in
     resize (entry_plus (eqb accel 1) c) (either (resize e (needing EphemerisCut 344 (over_motion
-        (over_acceleration x)))) (needing EphemerisCut 248 (over_motion x)))
+    (over_acceleration x)))) (needing EphemerisCut 248 (over_motion x)))
 
 over_entries : (n accel : ℕ) {s : Syntax} → Over (n * entry_size (eqb accel 1)) (times n (ephemeris accel) s) s
 over_entries zero accel = let e : 0 ≡ 0 * entry_size (eqb accel 1) = sym (zero-mul (entry_size
@@ -163,7 +167,7 @@ usable_plus false c = omega arith
 over_usable : {c : ℕ} (fault : Fault) (nm : Name) (flag : ℕ) {s r : Syntax} → Ordinary (text.◌++◌ nm "_year")
     → Ordinary (text.◌++◌ nm "_reserved_zero_future_use")
     → Ordinary (text.◌++◌ nm "_day") → Ordinary (text.◌++◌ nm "_day_fraction") → Over c s r
-        → Over (usable_size (eqb flag 1) + c) (usable fault nm flag s) r
+    → Over (usable_size (eqb flag 1) + c) (usable fault nm flag s) r
 over_usable {c} fault nm flag y z d f x =
     resize (usable_plus (eqb flag 1) c) (either (needing fault 56 (over_stamp nm y z d f x)) x)
 
@@ -179,14 +183,22 @@ over_metadata start stop =
     (over_u "metadata.reserved_zero_future_use" 1 (refl, refl) (over_u "interpolation_flag" 1 (refl, refl)
     (over_u "interpolation_type" 3 (refl, refl) (over_u "interpolation_degree" 3 (refl, refl)
     (over_usable UsableStartCut "usable_start_time" start (refl, refl) (refl, refl) (refl, refl) (refl, refl)
-    (over_usable UsableStopCut "usable_stop_time" stop (refl, refl) (refl, refl) (refl, refl) (refl,
-        refl) at_once)))))))))
+    (over_usable UsableStopCut "usable_stop_time" stop (refl, refl) (refl, refl) (refl, refl) (
+      refl,
+      refl,
+    ) at_once)))))))))
 
 -- what follows the flags, up to the count
 abbrev flags_of : (meta start stop accel cov : ℕ) → Flags
 flags_of meta start stop accel cov =
-    record { metadata = eqb meta 1; start = eqb start 1; stop = eqb stop 1; acceleration = eqb accel 1; covariance =
-        eqb cov 1 }
+    record {
+      metadata = eqb meta 1;
+      start = eqb start 1;
+      stop = eqb stop 1;
+      acceleration = eqb accel 1;
+      covariance =
+          eqb cov 1;
+    }
 
 over_rest : (meta start stop accel cov : ℕ) → Over (metadata_size (flags_of meta start stop accel cov)) (when
     (eqb meta 1) (metadata start stop (ephemerides accel cov)) (ephemerides accel cov)) (ephemerides accel cov)
@@ -198,15 +210,15 @@ part_elements zero = part_end
 part_elements (suc n) =
     let e : 4 + n * 4 ≡ suc n * 4 = omega arith in
     subst (λ (c : ℕ). Part c (times (suc n) (u "covariance_elements" 32) end)) e
-        (part_field unsigned "covariance_elements" 32 refl (λ _. part_elements n))
+    (part_field unsigned "covariance_elements" 32 refl (λ _. part_elements n))
 
 part_covariance : (cov : ℕ) → Part (covariance_size (eqb cov 1)) (covariance cov)
 unfolding is_part
 part_covariance cov =
     part_when (part_need CovarianceCut 728 (part_field unsigned "covariance_epoch_year" 8 refl
-        (λ _. part_field unsigned "covariance_epoch_reserved_zero_future_use" 7 refl
+    (λ _. part_field unsigned "covariance_epoch_reserved_zero_future_use" 7 refl
     (λ _. part_field unsigned "covariance_epoch_day" 9 refl (λ _. part_field unsigned "covariance_epoch_day_fraction"
-        32 refl (λ _. part_elements 21)))))) part_end
+    32 refl (λ _. part_elements 21)))))) part_end
 
 -- ---- a satellite's bytes
 
@@ -254,7 +266,7 @@ module _ (ed : Edition) (nm : Name) {v : ℕ} {ts us : List Field} (e : ts ≡ n
   flag_kept : Ordinary nm → ledger ed (redact ts) ≡ v ∷ ledger ed (redact us)
   flag_kept o =
       ap (λ (x : List Field). ledger ed (redact x)) e
-          ∙ ap (ledger ed) (redact_by (num unsigned nm 1 v) us false false o.0 o.1)
+      ∙ ap (ledger ed) (redact_by (num unsigned nm 1 v) us false false o.0 o.1)
       ∙ cons_ledger ed unsigned nm 1 v (redact us) ∙ ap (λ (d : List ℕ). d ++ ledger ed (redact us)) (one_byte v h)
 
 field_kept : (ed : Edition) (nm : Name) (w : ℕ) {v : ℕ} {ts us : List Field} → ts ≡ num unsigned nm w v ∷ us
@@ -262,7 +274,7 @@ field_kept : (ed : Edition) (nm : Name) (w : ℕ) {v : ℕ} {ts us : List Field}
     → ledger ed (redact ts) ≡ digits 256 (size unsigned w) v ++ ledger ed (redact us)
 field_kept ed nm w {v} {ts} {us} e o =
     ap (λ (x : List Field). ledger ed (redact x)) e
-        ∙ ap (ledger ed) (redact_by (num unsigned nm w v) us false false o.0 o.1)
+    ∙ ap (ledger ed) (redact_by (num unsigned nm w v) us false false o.0 o.1)
     ∙ cons_ledger ed unsigned nm w v (redact us)
 
 -- what follows the flags
@@ -280,7 +292,7 @@ record Rest (bs keeps : List ℕ) (f : Flags) : Type 0 where
 
 rest : {l i : Bool} {ts : List Field} (ed : Edition) (meta start stop accel cov : ℕ)
     → Good.Good l i (before (when (eqb meta 1) (metadata start stop (ephemerides accel cov))
-        (ephemerides accel cov))) ts
+    (ephemerides accel cov))) ts
     → Rest (ledger ed ts) (ledger ed (redact ts)) (flags_of meta start stop accel cov)
 unfolding is_part is_flag ledger
 rest {ts = ts} ed meta start stop accel cov r =
@@ -302,8 +314,10 @@ rest {ts = ts} ed meta start stop accel cov r =
       is = a.is ∙ ap (λ (x : List ℕ). ledger ed a.us ++ x) (ap (ledger ed) c.is
           ∙ cons_ledger ed unsigned "ephemeris_data_count" 16 c.v c.us
           ∙ ap (λ (x : List ℕ). d ++ x) e.is);
-      keeps_is = a.kept ∙ ap (λ (x : List ℕ). ledger ed a.us ++ x) (field_kept ed "ephemeris_data_count" 16 c.is (refl,
-          refl)
+      keeps_is = a.kept ∙ ap (λ (x : List ℕ). ledger ed a.us ++ x) (field_kept ed "ephemeris_data_count" 16 c.is (
+        refl,
+        refl,
+      )
           ∙ ap (λ (x : List ℕ). d ++ x) (e.kept ∙ ap (λ (x : List Field). es ++ ledger ed x) p.0 ∙ append-nil es));
     }
 
@@ -342,7 +356,7 @@ satellite {ts = ts} ed r =
       is =
           ap (ledger ed) a.is ∙ cons_ledger ed unsigned "satellite_id" 24 a.v a.us
           ∙ ap (λ (y : List ℕ). ia ++ y) (ap (ledger ed) b.is
-              ∙ cons_ledger ed unsigned "reserved_zero_future_use" 3 b.v b.us
+          ∙ cons_ledger ed unsigned "reserved_zero_future_use" 3 b.v b.us
           ∙ ap (λ (y : List ℕ). ib ++ y) (flag_byte ed "metadata_flag" c.is c.small
           ∙ ap (λ (y : List ℕ). c.v ∷ y) (flag_byte ed "usable_start_time_flag" d.is d.small
           ∙ ap (λ (y : List ℕ). d.v ∷ y) (flag_byte ed "usable_stop_time_flag" e.is e.small
@@ -360,7 +374,7 @@ satellite {ts = ts} ed r =
           ∙ ap (λ (y : List ℕ). f.v ∷ y) (ap (λ (y : List Field). ledger ed (redact y)) g.is
           ∙ ap (ledger ed) (redact_by (num unsigned "covariance_flag" 1 g.v) g.us false true refl refl)
           ∙ flag_byte ed "covariance_flag" {v = 0} {ts = num unsigned "covariance_flag" 1 0 ∷ redact g.us} {us = redact
-              g.us} refl (omega arith)
+          g.us} refl (omega arith)
           ∙ ap (λ (y : List ℕ). 0 ∷ y) x.keeps_is))))))
           ∙ sym (append_assoc ia ib (c.v ∷ d.v ∷ e.v ∷ f.v ∷ 0 ∷ kept));
     }
@@ -376,8 +390,10 @@ pub header_size : {l i : Bool} {hs : List Field} (ed : Edition) → Good.Good l 
     → length (ledger ed hs) ≡ 10
 unfolding header is_part is_flag
 header_size ed g =
-    let x : Over 10 header end = needing BodyEmpty 1 (needing HeaderCut 64 (over_u "oem_version_major" 4 (refl,
-    refl) (over_u "oem_version_minor" 4 (refl, refl)
+    let x : Over 10 header end = needing BodyEmpty 1 (needing HeaderCut 64 (over_u "oem_version_major" 4 (
+      refl,
+      refl,
+    ) (over_u "oem_version_minor" 4 (refl, refl)
     (over_stamp "creation_date" (refl, refl) (refl, refl) (refl, refl) (refl, refl) at_once)))) in
     let f = front ed (over_before x) g in
     nothing ed f.us f.good f.is f.size

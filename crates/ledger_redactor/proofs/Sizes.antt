@@ -21,7 +21,7 @@ module _ (l : List ℕ) (at : ℕ) where
   in_pieces end x y z =
       let e : at + 9 - at ≡ 9 = omega arith in
       named (ap (λ (k : ℕ). take k (drop at l) ++ (0 ∷ take (end - (at + 10)) (drop (at + 10) l))) e) (also x
-          (also y z))
+      (also y z))
 
   -- where its parts stand
   pub ten : behind_at l at ≤ length l → at + 10 ≤ length l

@@ -88,21 +88,28 @@ module _ (l : List ℕ) (at : ℕ) (bs keeps more : List ℕ) (e : drop at l ≡
       (at + 10) (length x.about) a refl ∙ append_assoc d r more in
       ap (λ (k : ℕ). value 256 (take 2 (drop k l))) count_is ∙ ap (λ (y : List ℕ). value 256 (take 2 y)) b
       ∙ ap (value 256) (take_at d (r ++ more) 2 (length_digits 256 2 x.count))
-          ∙ value_digits 256 2 x.count (omega arith) (omega (arith, x.few))
+      ∙ value_digits 256 2 x.count (omega arith) (omega (arith, x.few))
 
   kept_long : length keeps ≡ 12 + length x.about + length x.each
   kept_long =
       let d : List ℕ = digits 256 2 x.count in
       ap length x.keeps_is ∙ length-append x.front (x.meta ∷ x.start ∷ x.stop ∷ x.accel ∷ 0 ∷ (x.about ++
-          (d ++ x.each)))
+      (d ++ x.each)))
       ∙ omega (arith, x.five, length-append x.about (d ++ x.each), length-append d x.each, length_digits 256 2 x.count)
 
   long : length bs ≡ length keeps + length x.part
   long =
       let d : List ℕ = digits 256 2 x.count in
       ap length x.is ∙ length-append x.front (flag_bytes ++ tail)
-      ∙ omega (arith, kept_long, x.five, length-append x.about (d ++ (x.each ++ x.part)),
-          length-append d (x.each ++ x.part), length-append x.each x.part, length_digits 256 2 x.count)
+      ∙ omega (
+        arith,
+        kept_long,
+        x.five,
+        length-append x.about (d ++ (x.each ++ x.part)),
+        length-append d (x.each ++ x.part),
+        length-append x.each x.part,
+        length_digits 256 2 x.count,
+      )
 
   starts : covariance_at l at ≡ at + length keeps
   unfolding covariance_at flagged
@@ -132,10 +139,15 @@ module _ (l : List ℕ) (at : ℕ) (bs keeps more : List ℕ) (e : drop at l ≡
       let c : drop (at + 10) l ≡ k ++ (x.part ++ more) =
       behind_ten ∙ ap (λ (y : List ℕ). (x.about ++ y) ++ more) (sym (append_assoc d x.each x.part))
       ∙ ap (λ (y : List ℕ). y ++ more) (sym (append_assoc x.about (d ++ x.each) x.part)) ∙ append_assoc k x.part more in
-      let n : length k ≡ at + length keeps - (at + 10) = omega (arith, kept_long, length-append x.about (d ++ x.each),
-      length-append d x.each, length_digits 256 2 x.count) in
+      let n : length k ≡ at + length keeps - (at + 10) = omega (
+        arith,
+        kept_long,
+        length-append x.about (d ++ x.each),
+        length-append d x.each,
+        length_digits 256 2 x.count,
+      ) in
       ap₂ (λ (y z : List ℕ). y ++ (0 ∷ z)) b (ap (take (at + length keeps - (at + 10))) c
-          ∙ take_at k (x.part ++ more) (at + length keeps - (at + 10)) n)
+      ∙ take_at k (x.part ++ more) (at + length keeps - (at + 10)) n)
       ∙ append_assoc x.front (x.meta ∷ x.start ∷ x.stop ∷ x.accel ∷ []) (0 ∷ k)
       ∙ sym x.keeps_is
 

@@ -48,7 +48,7 @@ pub record Whole (l : List ℕ) : Type 0 where
 made : (l : List ℕ) (ed : Edition) (hs : List Field) (es : List (List Field)) → ed ≡ edition_of l
     → Good.Good false false (before header) hs → AllGood (before position3) es → length es < 65536
     → ledger_of ed 4 (list hs es) ≡ l → redacted l ≡ got (ledger_of (edition_of l) (id_of l) (list hs
-        (map redact es))) []
+    (map redact es))) []
     → Whole l
 unfolding ledger_of content_of
 made l ed hs es c g gs few e q =
@@ -82,8 +82,16 @@ made l ed hs es c g gs few e q =
       count = ap (λ (x : List ℕ). value 256 (take 2 x)) (sym (drop-drop 10 4 l) ∙ ap (drop 10) behind_id
           ∙ drop_at h (n ++ es') 10 ten)
           ∙ ap (value 256) (take_at n es' 2 two) ∙ value_digits 256 2 (length es) (omega arith) (omega (arith, few));
-      long = omega (arith, ap length w, length-append f (h ++ (n ++ es')), four, length-append h (n ++ es'), ten,
-          length-append n es', two);
+      long = omega (
+        arith,
+        ap length w,
+        length-append f (h ++ (n ++ es')),
+        four,
+        length-append h (n ++ es'),
+        ten,
+        length-append n es',
+        two,
+      );
       is = q ∙ ap (λ (x : List ℕ). got x []) z;
     }
 
@@ -94,12 +102,17 @@ unfolding body_of
 few_entries hs es gs k =
     let x = fine_then 4 in
     let p : List ℕ = kept hs ++ laids Second es in
-    omega (arith, k, count_le (before position3) 32 es x.2 x.3 gs, length_bytes (length p / 8) p,
-        length-append (kept hs) (laids Second es))
+    omega (
+      arith,
+      k,
+      count_le (before position3) 32 es x.2 x.3 gs,
+      length_bytes (length p / 8) p,
+      length-append (kept hs) (laids Second es),
+    )
 
 table_whole : (l : List ℕ) (t : Table) → GoodTable (layout_before (layout 4)) t → length (kept_of t) ≤ 4096
     → ledger_of (edition_of l) 4 t ≡ l → redacted l ≡ got (ledger_of (edition_of l) (id_of l) (each redact t)) []
-        → Whole l
+    → Whole l
 table_whole l t (good_list {hs} {es} g gs) k e q = made l (edition_of l) hs es refl g gs (few_entries hs es gs k) e q
 
 pub whole : (l : List ℕ) → Below 256 l → ReadAs (edition_of l) 4 l → Whole l
@@ -108,10 +121,10 @@ whole l b w =
     let a = read_accepted l w.table b w.reads in
     let g = accepted_good (fine_then (id_of l)) a.0 in
     table_whole l w.table (subst (λ (k : ℕ). GoodTable (layout_before (layout k)) w.table) (sym w.named) g.0) (omega
-        (arith, g.1, g.2))
+    (arith, g.1, g.2))
     (ap (λ (k : ℕ). ledger_of (edition_of l) k w.table) w.named ∙ a.1)
     (copy_is l w.table w.reads ∙ ap (λ (k : ℕ). got (ledger_of (edition_of l) (id_of l)
-        (satellites redact k w.table)) []) (sym w.named))
+    (satellites redact k w.table)) []) (sym w.named))
 
 -- ---- the walk
 
@@ -218,9 +231,13 @@ ends {l} v a h =
     let none : v.left ≡ [] = empty v.left (omega (arith, v.many, w.count)) in
     let b : v.laid ≡ ledgers ed (map redact w.es) =
     sym (append-nil v.laid) ∙ ap (λ (es : List (List Field)). v.laid ++ ledgers ed (map redact es)) (sym none)
-        ∙ sym v.bytes in
-    record { content = copied l w.es; is = w.is; appended = named (ap (λ (x : List ℕ). take 12 (drop 4 l) ++ x) b)
-        (also a v.appended) }
+    ∙ sym v.bytes in
+    record {
+      content = copied l w.es;
+      is = w.is;
+      appended = named (ap (λ (x : List ℕ). take 12 (drop 4 l) ++ x) b)
+          (also a v.appended);
+    }
   where
     empty : (xs : List (List Field)) → length xs ≡ 0 → xs ≡ []
     empty [] k = refl
