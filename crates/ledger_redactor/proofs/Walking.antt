@@ -1,11 +1,11 @@
 -- The satellites of a ledger gone through one by one: what is laid of each, and what is left.
 -- Assumes nothing.
-use Prim.Native.Nat.{ℕ, zero, suc, ◌+◌, ◌-◌, ◌*◌, ◌/◌, ◌^◌, ◌≤◌, ◌<◌}
+use Prim.Native.Nat.{ℕ, ◌+◌, ◌/◌, ◌≤◌, ◌<◌}
 use mathlib.Core.Path.{◌≡◌, refl, sym, ap, ap₂, ◌∙◌, subst}
 use mathlib.Core.Bool.{false}
 use mathlib.Core.List.{List, [], ◌∷◌, ◌++◌, map, append_assoc, append-nil}
 use native.Mathlib.Omega.{arith}
-use lib.ListN.{length, take, drop, length-append, length-drop, length-map}
+use lib.ListN.{length, take, drop, length-append, length-map}
 use lib.Seq.{take_at, drop_at, drop-drop}
 use Rattle.format.specs.Digits.{digits, value, Below}
 use Rattle.format.specs.Syntax.{before, Field, got}
@@ -26,7 +26,7 @@ use Rattle.runs.specs.Appended.{Appended, LedgerLaid}
 use Rattle.runs.proofs.Appends.{nothing_yet, also, named}
 use Rattle.ledger_reader.specs.Measured.{ReadAs}
 use Rattle.ledger_redactor.specs.Places.{covariance_at, behind_at, copy_to}
-use Rattle.ledger_redactor.proofs.Satellites.{Satellite, satellite, header_size}
+use Rattle.ledger_redactor.proofs.Satellites.{satellite, header_size}
 use Rattle.ledger_redactor.proofs.Standing.{Stands, stands}
 
 -- ---- a ledger of satellites: sixteen bytes, of which the last two are the count, and then the satellites
