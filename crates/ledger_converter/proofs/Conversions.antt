@@ -21,4 +21,5 @@ unfolding ledger_of
 four ed l out b e fit =
     let s = results.sized (id_of l) (converted ed l) e in
     let c = accepted_conversion ed l b s.is in
-    results.four (id_of l) out (converted ed l) e fit ed (content_of ed c.table) (fields_converted ed l c.table c.reads c.same)
+    results.four (id_of l) out (converted ed l) e fit ed (content_of ed c.table)
+    (fields_converted ed l c.table c.reads c.same)

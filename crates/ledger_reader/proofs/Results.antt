@@ -61,7 +61,12 @@ pub makes : {ed : Edition} {l : List ℕ} {n : ℕ} {p : Parse (List ℕ)} {out 
 makes {ed} {l} {n} m w x =
     let d : List ℕ = digits 256 2 (length x.content + 2) in
     let k : length (d ++ (version ed ∷ id_of l ∷ x.content)) ≡ n =
-    omega (arith, length-append d (version ed ∷ id_of l ∷ x.content), length_digits 256 2 (length x.content + 2), x.appended.size) in
+    omega (
+      arith,
+      length-append d (version ed ∷ id_of l ∷ x.content),
+      length_digits 256 2 (length x.content + 2),
+      x.appended.size,
+    ) in
     record { to = (w, ap₂ done w.named (sym k) ∙ sym (ap (measured (id_of l)) x.is)) }
 
 -- ---- a result p under an id
@@ -116,7 +121,8 @@ room_for id out p e fit =
 one_result : {p : Parse (List ℕ)} {xs rest ys : List ℕ} → p ≡ got xs rest → p ≡ got ys [] → xs ≡ ys
 one_result {xs = xs} {rest} {ys} e d = let z : got xs rest ≡ got ys [] = sym e ∙ d in cc
 
-module _ {m o : Output} (id : ℕ) (out : List ℕ) (p : Parse (List ℕ)) (e : Ok m ≡ measured id p) (fit : Fitted m.table_id m.length (length out) (Ok o)) where
+module _ {m o : Output} (id : ℕ) (out : List ℕ) (p : Parse (List ℕ)) (e : Ok m ≡ measured id p)
+    (fit : Fitted m.table_id m.length (length out) (Ok o)) where
   -- what went through with no buffer goes through with one
   pub never : {f : Refusal} {A : Type 0} → p ≡ refused f.fault f.need f.have → A
   never q = let r = room_for id out p e fit in absurd (got_not_refused (sym r.is ∙ q))
@@ -127,7 +133,13 @@ module _ {m o : Output} (id : ℕ) (out : List ℕ) (p : Parse (List ℕ)) (e : 
   four ed c q =
       let r = room_for id out p e fit in
       let d : List ℕ = digits 256 2 (length c + 2) in
-      omega (arith, r.size, ap length (one_result r.is q), length-append d (version ed ∷ id ∷ c), length_digits 256 2 (length c + 2))
+      omega (
+        arith,
+        r.size,
+        ap length (one_result r.is q),
+        length-append d (version ed ∷ id ∷ c),
+        length_digits 256 2 (length c + 2),
+      )
 
   -- the front is laid, and the content behind it
   pub stored : {ed : Edition} {out₁ out₂ out₃ : List ℕ} {i j n v k : ℕ}
@@ -140,7 +152,13 @@ module _ {m o : Output} (id : ℕ) (out : List ℕ) (p : Parse (List ℕ)) (e : 
       let c : List ℕ = z.content in
       let d : List ℕ = digits 256 2 (length c + 2) in
       let s : r.xs ≡ d ++ (version ed ∷ id ∷ c) = one_result r.is z.is in
-      let w : o.length ≡ length c + 4 = omega (arith, r.size, ap length s, length-append d (version ed ∷ id ∷ c), length_digits 256 2 (length c + 2)) in
+      let w : o.length ≡ length c + 4 = omega (
+        arith,
+        r.size,
+        ap length s,
+        length-append d (version ed ∷ id ∷ c),
+        length_digits 256 2 (length c + 2),
+      ) in
       let u : o.length - 2 ≡ length c + 2 = omega arith in
       let four : 4 ≡ j = omega (arith, x.size, y.size, length_digits 256 2 (o.length - 2)) in
       let content : Appended c j out₂ out₃ n = subst (λ (a : ℕ). Appended c a out₂ out₃ n) four z.appended in

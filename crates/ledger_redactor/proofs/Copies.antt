@@ -1,17 +1,15 @@
 -- What is known of a ledger's copy without covariance, for the calls.
 -- Assumes nothing.
-use Prim.Native.Nat.{ℕ, ◌+◌, ◌≤◌}
+use Prim.Native.Nat.{ℕ, ◌≤◌}
 use mathlib.Core.Path.{◌≡◌, sym, ap, ◌∙◌, subst}
-use mathlib.Core.List.{List, [], ◌∷◌, ◌++◌}
-use native.Mathlib.Omega.{arith}
+use mathlib.Core.List.{List, []}
 use lib.ListN.{length, drop}
-use lib.Seq.{take_at, length-take-le}
 use Rattle.std.specs.Prelude.{Ok}
 use Rattle.format.specs.Digits.{digits, Below}
-use Rattle.format.specs.Syntax.{Parse, got}
+use Rattle.format.specs.Syntax.{got}
 use Rattle.format.specs.declared.Edition.{Edition}
 use Rattle.format.specs.declared.Output.{Output}
-use Rattle.format.specs.Whole.{content_of, version, ledger_of, id_of, edition_of, ledger_read}
+use Rattle.format.specs.Whole.{content_of, ledger_of, id_of, edition_of}
 use Rattle.format.specs.Calls.{Fitted}
 use Rattle.format.specs.Redact.{redact, satellites, redacted}
 use Rattle.format.proofs.Demand.{read_accepted}
@@ -41,7 +39,8 @@ whole_copy {id} {l} b w h a =
     }
 
 -- a copy has its first four bytes
-pub four : {ed : Edition} {id : ℕ} {m o : Output} (l out : List ℕ) → ReadAs ed id l → Ok m ≡ measured (id_of l) (redacted l)
+pub four : {ed : Edition} {id : ℕ} {m o : Output} (l out : List ℕ) → ReadAs ed id l
+    → Ok m ≡ measured (id_of l) (redacted l)
     → Fitted m.table_id m.length (length out) (Ok o) → 4 ≤ o.length
 unfolding ledger_of
 four l out w e fit =

@@ -1,3 +1,4 @@
+mod Parts
 mod Satellites
 mod Sizes
 mod Standing

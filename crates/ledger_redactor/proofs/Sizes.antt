@@ -13,13 +13,15 @@ use Rattle.ledger_redactor.specs.Places.{flags_at, metadata_size, entry_size, co
 
 module _ (l : List ℕ) (at : ℕ) where
   -- a satellite's copy in three pieces
-  pub in_pieces : {out out₁ out₂ out₃ : List ℕ} {p q r n : ℕ} (end : ℕ) → Appended (take (at + 9 - at) (drop at l)) p out out₁ q
+  pub in_pieces : {out out₁ out₂ out₃ : List ℕ} {p q r n : ℕ} (end : ℕ)
+      → Appended (take (at + 9 - at) (drop at l)) p out out₁ q
       → Appended (0 ∷ []) q out₁ out₂ r → Appended (take (end - (at + 10)) (drop (at + 10) l)) r out₂ out₃ n
       → Appended (copy_to l at end) p out out₃ n
   unfolding copy_to
   in_pieces end x y z =
       let e : at + 9 - at ≡ 9 = omega arith in
-      named (ap (λ (k : ℕ). take k (drop at l) ++ (0 ∷ take (end - (at + 10)) (drop (at + 10) l))) e) (also x (also y z))
+      named (ap (λ (k : ℕ). take k (drop at l) ++ (0 ∷ take (end - (at + 10)) (drop (at + 10) l))) e) (also x
+      (also y z))
 
   -- where its parts stand
   pub ten : behind_at l at ≤ length l → at + 10 ≤ length l
@@ -39,7 +41,8 @@ module _ (l : List ℕ) (at : ℕ) where
       pub start_is : at + 10 + m + 2 + s ≡ covariance_at l at
       unfolding covariance_at
       start_is =
-          let k : n ≡ value 256 (take 2 (drop (count_at l at) l)) = c ∙ ap (λ (x : ℕ). value 256 (take 2 (drop x l))) count_is in
+          let k : n ≡ value 256 (take 2 (drop (count_at l at) l)) = c
+          ∙ ap (λ (x : ℕ). value 256 (take 2 (drop x l))) count_is in
           ap₂ (λ (x y : ℕ). x + 2 + y) count_is (b ∙ ap₂ (λ (x : ℕ) (y : Flags). x * entry_size y.acceleration) k e)
 
       pub start_there : behind_at l at ≤ length l → at + 10 + m + 2 + s ≤ length l

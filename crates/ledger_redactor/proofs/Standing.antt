@@ -1,6 +1,6 @@
 -- A satellite that stands at a place of a ledger: where its covariance starts and ends, and what the copy keeps.
 -- Assumes nothing.
-use Prim.Native.Nat.{ℕ, ◌+◌, ◌-◌, ◌*◌, ◌^◌, ◌≤◌, ◌<◌}
+use Prim.Native.Nat.{ℕ, ◌+◌, ◌-◌, ◌*◌, ◌≤◌}
 use mathlib.Core.Path.{◌≡◌, refl, sym, ap, ap₂, ◌∙◌}
 use mathlib.Core.List.{List, [], ◌∷◌, ◌++◌, append_assoc}
 use native.Mathlib.Omega.{arith}
@@ -84,21 +84,32 @@ module _ (l : List ℕ) (at : ℕ) (bs keeps more : List ℕ) (e : drop at l ≡
       let d : List ℕ = digits 256 2 x.count in
       let r : List ℕ = x.each ++ x.part in
       let a : drop (at + 10) l ≡ x.about ++ ((d ++ r) ++ more) = behind_ten ∙ append_assoc x.about (d ++ r) more in
-      let b : drop (at + 10 + length x.about) l ≡ d ++ (r ++ more) = behind_front l x.about ((d ++ r) ++ more) (at + 10) (length x.about) a refl ∙ append_assoc d r more in
+      let b : drop (at + 10 + length x.about) l ≡ d ++ (r ++ more) = behind_front l x.about ((d ++ r) ++ more)
+      (at + 10) (length x.about) a refl ∙ append_assoc d r more in
       ap (λ (k : ℕ). value 256 (take 2 (drop k l))) count_is ∙ ap (λ (y : List ℕ). value 256 (take 2 y)) b
-      ∙ ap (value 256) (take_at d (r ++ more) 2 (length_digits 256 2 x.count)) ∙ value_digits 256 2 x.count (omega arith) (omega (arith, x.few))
+      ∙ ap (value 256) (take_at d (r ++ more) 2 (length_digits 256 2 x.count))
+      ∙ value_digits 256 2 x.count (omega arith) (omega (arith, x.few))
 
   kept_long : length keeps ≡ 12 + length x.about + length x.each
   kept_long =
       let d : List ℕ = digits 256 2 x.count in
-      ap length x.keeps_is ∙ length-append x.front (x.meta ∷ x.start ∷ x.stop ∷ x.accel ∷ 0 ∷ (x.about ++ (d ++ x.each)))
+      ap length x.keeps_is ∙ length-append x.front (x.meta ∷ x.start ∷ x.stop ∷ x.accel ∷ 0 ∷ (x.about ++
+      (d ++ x.each)))
       ∙ omega (arith, x.five, length-append x.about (d ++ x.each), length-append d x.each, length_digits 256 2 x.count)
 
   long : length bs ≡ length keeps + length x.part
   long =
       let d : List ℕ = digits 256 2 x.count in
       ap length x.is ∙ length-append x.front (flag_bytes ++ tail)
-      ∙ omega (arith, kept_long, x.five, length-append x.about (d ++ (x.each ++ x.part)), length-append d (x.each ++ x.part), length-append x.each x.part, length_digits 256 2 x.count)
+      ∙ omega (
+        arith,
+        kept_long,
+        x.five,
+        length-append x.about (d ++ (x.each ++ x.part)),
+        length-append d (x.each ++ x.part),
+        length-append x.each x.part,
+        length_digits 256 2 x.count,
+      )
 
   starts : covariance_at l at ≡ at + length keeps
   unfolding covariance_at flagged
@@ -110,7 +121,8 @@ module _ (l : List ℕ) (at : ℕ) (bs keeps more : List ℕ) (e : drop at l ≡
   ends : behind_at l at ≡ at + length bs
   unfolding behind_at flagged
   ends =
-      let w : covariance_size (flags_at l at).covariance ≡ length x.part = ap (λ (f : Flags). covariance_size f.covariance) flags_are ∙ sym x.part_size in
+      let w : covariance_size (flags_at l at).covariance ≡ length x.part = ap (λ
+      (f : Flags). covariance_size f.covariance) flags_are ∙ sym x.part_size in
       omega (arith, w, starts, long)
 
   copied : copy_to l at (at + length keeps) ≡ keeps
@@ -119,14 +131,23 @@ module _ (l : List ℕ) (at : ℕ) (bs keeps more : List ℕ) (e : drop at l ≡
       let d : List ℕ = digits 256 2 x.count in
       let f : List ℕ = x.front ++ (x.meta ∷ x.start ∷ x.stop ∷ x.accel ∷ []) in
       let k : List ℕ = x.about ++ (d ++ x.each) in
-      let nine : length f ≡ 9 = length-append x.front (x.meta ∷ x.start ∷ x.stop ∷ x.accel ∷ []) ∙ omega (arith, x.five) in
-      let a : drop at l ≡ f ++ (x.cov ∷ (tail ++ more)) = in_front ∙ sym (append_assoc x.front (x.meta ∷ x.start ∷ x.stop ∷ x.accel ∷ []) (x.cov ∷ (tail ++ more))) in
+      let nine : length f ≡ 9 = length-append x.front (x.meta ∷ x.start ∷ x.stop ∷ x.accel ∷ [])
+      ∙ omega (arith, x.five) in
+      let a : drop at l ≡ f ++ (x.cov ∷ (tail ++ more)) = in_front
+      ∙ sym (append_assoc x.front (x.meta ∷ x.start ∷ x.stop ∷ x.accel ∷ []) (x.cov ∷ (tail ++ more))) in
       let b : take 9 (drop at l) ≡ f = ap (take 9) a ∙ take_at f (x.cov ∷ (tail ++ more)) 9 nine in
       let c : drop (at + 10) l ≡ k ++ (x.part ++ more) =
       behind_ten ∙ ap (λ (y : List ℕ). (x.about ++ y) ++ more) (sym (append_assoc d x.each x.part))
       ∙ ap (λ (y : List ℕ). y ++ more) (sym (append_assoc x.about (d ++ x.each) x.part)) ∙ append_assoc k x.part more in
-      let n : length k ≡ at + length keeps - (at + 10) = omega (arith, kept_long, length-append x.about (d ++ x.each), length-append d x.each, length_digits 256 2 x.count) in
-      ap₂ (λ (y z : List ℕ). y ++ (0 ∷ z)) b (ap (take (at + length keeps - (at + 10))) c ∙ take_at k (x.part ++ more) (at + length keeps - (at + 10)) n)
+      let n : length k ≡ at + length keeps - (at + 10) = omega (
+        arith,
+        kept_long,
+        length-append x.about (d ++ x.each),
+        length-append d x.each,
+        length_digits 256 2 x.count,
+      ) in
+      ap₂ (λ (y z : List ℕ). y ++ (0 ∷ z)) b (ap (take (at + length keeps - (at + 10))) c
+      ∙ take_at k (x.part ++ more) (at + length keeps - (at + 10)) n)
       ∙ append_assoc x.front (x.meta ∷ x.start ∷ x.stop ∷ x.accel ∷ []) (0 ∷ k)
       ∙ sym x.keeps_is
 

@@ -1,11 +1,11 @@
 -- The satellites of a ledger gone through one by one: what is laid of each, and what is left.
 -- Assumes nothing.
-use Prim.Native.Nat.{ℕ, zero, suc, ◌+◌, ◌-◌, ◌*◌, ◌/◌, ◌^◌, ◌≤◌, ◌<◌}
+use Prim.Native.Nat.{ℕ, ◌+◌, ◌/◌, ◌≤◌, ◌<◌}
 use mathlib.Core.Path.{◌≡◌, refl, sym, ap, ap₂, ◌∙◌, subst}
 use mathlib.Core.Bool.{false}
 use mathlib.Core.List.{List, [], ◌∷◌, ◌++◌, map, append_assoc, append-nil}
 use native.Mathlib.Omega.{arith}
-use lib.ListN.{length, take, drop, length-append, length-drop, length-map}
+use lib.ListN.{length, take, drop, length-append, length-map}
 use lib.Seq.{take_at, drop_at, drop-drop}
 use Rattle.format.specs.Digits.{digits, value, Below}
 use Rattle.format.specs.Syntax.{before, Field, got}
@@ -26,7 +26,7 @@ use Rattle.runs.specs.Appended.{Appended, LedgerLaid}
 use Rattle.runs.proofs.Appends.{nothing_yet, also, named}
 use Rattle.ledger_reader.specs.Measured.{ReadAs}
 use Rattle.ledger_redactor.specs.Places.{covariance_at, behind_at, copy_to}
-use Rattle.ledger_redactor.proofs.Satellites.{Satellite, satellite, header_size}
+use Rattle.ledger_redactor.proofs.Satellites.{satellite, header_size}
 use Rattle.ledger_redactor.proofs.Standing.{Stands, stands}
 
 -- ---- a ledger of satellites: sixteen bytes, of which the last two are the count, and then the satellites
@@ -41,12 +41,14 @@ pub record Whole (l : List ℕ) : Type 0 where
   pub starts : drop 16 l ≡ ledgers (edition_of l) es
   pub count : value 256 (take 2 (drop 14 l)) ≡ length es
   pub long : 16 ≤ length l
-  pub is : redacted l ≡ got (digits 256 2 (length (copied l es) + 2) ++ (version (edition_of l) ∷ id_of l ∷ copied l es)) []
+  pub is : redacted l ≡ got (digits 256 2 (length (copied l es) + 2) ++ (version
+      (edition_of l) ∷ id_of l ∷ copied l es)) []
 
 -- the bytes in front of the satellites, by the header's and the count's
 made : (l : List ℕ) (ed : Edition) (hs : List Field) (es : List (List Field)) → ed ≡ edition_of l
     → Good.Good false false (before header) hs → AllGood (before position3) es → length es < 65536
-    → ledger_of ed 4 (list hs es) ≡ l → redacted l ≡ got (ledger_of (edition_of l) (id_of l) (list hs (map redact es))) []
+    → ledger_of ed 4 (list hs es) ≡ l → redacted l ≡ got (ledger_of (edition_of l) (id_of l) (list hs
+    (map redact es))) []
     → Whole l
 unfolding ledger_of content_of
 made l ed hs es c g gs few e q =
@@ -57,7 +59,8 @@ made l ed hs es c g gs few e q =
     let f : List ℕ = d ++ (version ed ∷ 4 ∷ []) in
     let ten : length h ≡ 10 = header_size ed g in
     let two : length n ≡ 2 = length_digits 256 2 (length es) in
-    let four : length f ≡ 4 = length-append d (version ed ∷ 4 ∷ []) ∙ omega (arith, length_digits 256 2 (length (h ++ (n ++ es')) + 2)) in
+    let four : length f ≡ 4 = length-append d (version ed ∷ 4 ∷ [])
+    ∙ omega (arith, length_digits 256 2 (length (h ++ (n ++ es')) + 2)) in
     let w : l ≡ f ++ (h ++ (n ++ es')) = sym e ∙ sym (append_assoc d (version ed ∷ 4 ∷ []) (h ++ (n ++ es'))) in
     let behind_id : drop 4 l ≡ h ++ (n ++ es') = ap (drop 4) w ∙ drop_at f (h ++ (n ++ es')) 4 four in
     let twelve : length (h ++ n) ≡ 12 = length-append h n ∙ omega (arith, ten, two) in
@@ -67,16 +70,28 @@ made l ed hs es c g gs few e q =
     let k : h ++ (digits 256 2 (length (map redact es)) ++ r) ≡ copied l es =
     ap (λ (m : ℕ). h ++ (digits 256 2 m ++ r)) (length-map es redact) ∙ sym (append_assoc h n r)
     ∙ ap₂ (λ (x : List ℕ) (y : Edition). x ++ ledgers y (map redact es)) (sym front) c in
-    let z : ledger_of (edition_of l) (id_of l) (list hs (map redact es)) ≡ digits 256 2 (length (copied l es) + 2) ++ (version (edition_of l) ∷ id_of l ∷ copied l es) =
+    let z : ledger_of (edition_of l) (id_of l) (list hs (map redact es)) ≡ digits 256 2 (length (copied l es) + 2) ++
+    (version (edition_of l) ∷ id_of l ∷ copied l es) =
     ap (λ (y : Edition). ledger_of y (id_of l) (list hs (map redact es))) (sym c)
     ∙ ap₂ (λ (x : List ℕ) (y : Edition). digits 256 2 (length x + 2) ++ (version y ∷ id_of l ∷ x)) k c in
     record {
       es = es;
       good = gs;
-      starts = sym (drop-drop 12 4 l) ∙ ap (drop 12) b ∙ drop_at (h ++ n) es' 12 twelve ∙ ap (λ (y : Edition). ledgers y es) c;
-      count = ap (λ (x : List ℕ). value 256 (take 2 x)) (sym (drop-drop 10 4 l) ∙ ap (drop 10) behind_id ∙ drop_at h (n ++ es') 10 ten)
+      starts = sym (drop-drop 12 4 l) ∙ ap (drop 12) b ∙ drop_at (h ++ n) es' 12 twelve
+          ∙ ap (λ (y : Edition). ledgers y es) c;
+      count = ap (λ (x : List ℕ). value 256 (take 2 x)) (sym (drop-drop 10 4 l) ∙ ap (drop 10) behind_id
+          ∙ drop_at h (n ++ es') 10 ten)
           ∙ ap (value 256) (take_at n es' 2 two) ∙ value_digits 256 2 (length es) (omega arith) (omega (arith, few));
-      long = omega (arith, ap length w, length-append f (h ++ (n ++ es')), four, length-append h (n ++ es'), ten, length-append n es', two);
+      long = omega (
+        arith,
+        ap length w,
+        length-append f (h ++ (n ++ es')),
+        four,
+        length-append h (n ++ es'),
+        ten,
+        length-append n es',
+        two,
+      );
       is = q ∙ ap (λ (x : List ℕ). got x []) z;
     }
 
@@ -87,10 +102,17 @@ unfolding body_of
 few_entries hs es gs k =
     let x = fine_then 4 in
     let p : List ℕ = kept hs ++ laids Second es in
-    omega (arith, k, count_le (before position3) 32 es x.2 x.3 gs, length_bytes (length p / 8) p, length-append (kept hs) (laids Second es))
+    omega (
+      arith,
+      k,
+      count_le (before position3) 32 es x.2 x.3 gs,
+      length_bytes (length p / 8) p,
+      length-append (kept hs) (laids Second es),
+    )
 
 table_whole : (l : List ℕ) (t : Table) → GoodTable (layout_before (layout 4)) t → length (kept_of t) ≤ 4096
-    → ledger_of (edition_of l) 4 t ≡ l → redacted l ≡ got (ledger_of (edition_of l) (id_of l) (each redact t)) [] → Whole l
+    → ledger_of (edition_of l) 4 t ≡ l → redacted l ≡ got (ledger_of (edition_of l) (id_of l) (each redact t)) []
+    → Whole l
 table_whole l t (good_list {hs} {es} g gs) k e q = made l (edition_of l) hs es refl g gs (few_entries hs es gs k) e q
 
 pub whole : (l : List ℕ) → Below 256 l → ReadAs (edition_of l) 4 l → Whole l
@@ -98,9 +120,11 @@ unfolding satellites
 whole l b w =
     let a = read_accepted l w.table b w.reads in
     let g = accepted_good (fine_then (id_of l)) a.0 in
-    table_whole l w.table (subst (λ (k : ℕ). GoodTable (layout_before (layout k)) w.table) (sym w.named) g.0) (omega (arith, g.1, g.2))
+    table_whole l w.table (subst (λ (k : ℕ). GoodTable (layout_before (layout k)) w.table) (sym w.named) g.0) (omega
+    (arith, g.1, g.2))
     (ap (λ (k : ℕ). ledger_of (edition_of l) k w.table) w.named ∙ a.1)
-    (copy_is l w.table w.reads ∙ ap (λ (k : ℕ). got (ledger_of (edition_of l) (id_of l) (satellites redact k w.table)) []) (sym w.named))
+    (copy_is l w.table w.reads ∙ ap (λ (k : ℕ). got (ledger_of (edition_of l) (id_of l)
+    (satellites redact k w.table)) []) (sym w.named))
 
 -- ---- the walk
 
@@ -156,12 +180,14 @@ next l place (ts ∷ later) h g e =
       stands = stands l place (ledger ed ts) (ledger ed (redact ts)) (ledgers ed later) e (satellite ed g.0);
     }
 
-module _ {l out₀ out : List ℕ} {start i place at : ℕ} (v : Walking l out₀ start i place at out) (h : i < value 256 (take 2 (drop 14 l))) where
+module _ {l out₀ out : List ℕ} {start i place at : ℕ} (v : Walking l out₀ start i place at out) (h : i < value 256
+    (take 2 (drop 14 l))) where
   step : Next l place v.left
   step = let w = v.w in next l place v.left (omega (arith, v.many, w.count)) v.good v.there
 
   -- all of it is there
-  pub there : (covariance_at l place ≤ behind_at l place) × (place + 10 ≤ covariance_at l place) × (behind_at l place ≤ length l)
+  pub there : (covariance_at l place ≤ behind_at l place) × (place + 10 ≤ covariance_at l place)
+      × (behind_at l place ≤ length l)
   there =
       let n = step in
       let s = n.stands in
@@ -183,7 +209,8 @@ module _ {l out₀ out : List ℕ} {start i place at : ℕ} (v : Walking l out�
         left = n.later;
         laid = v.laid ++ c;
         good = n.good;
-        there = ap (λ (k : ℕ). drop k l) e ∙ sym (drop-drop (length (ledger ed n.ts)) place l) ∙ ap (drop (length (ledger ed n.ts))) n.behind
+        there = ap (λ (k : ℕ). drop k l) e ∙ sym (drop-drop (length (ledger ed n.ts)) place l)
+            ∙ ap (drop (length (ledger ed n.ts))) n.behind
             ∙ drop_at (ledger ed n.ts) (ledgers ed n.later) (length (ledger ed n.ts)) refl;
         many = omega (arith, v.many, ap length n.is);
         bytes = v.bytes ∙ ap (λ (es : List (List Field)). v.laid ++ ledgers ed (map redact es)) n.is
@@ -203,8 +230,14 @@ ends {l} v a h =
     let ed : Edition = edition_of l in
     let none : v.left ≡ [] = empty v.left (omega (arith, v.many, w.count)) in
     let b : v.laid ≡ ledgers ed (map redact w.es) =
-    sym (append-nil v.laid) ∙ ap (λ (es : List (List Field)). v.laid ++ ledgers ed (map redact es)) (sym none) ∙ sym v.bytes in
-    record { content = copied l w.es; is = w.is; appended = named (ap (λ (x : List ℕ). take 12 (drop 4 l) ++ x) b) (also a v.appended) }
+    sym (append-nil v.laid) ∙ ap (λ (es : List (List Field)). v.laid ++ ledgers ed (map redact es)) (sym none)
+    ∙ sym v.bytes in
+    record {
+      content = copied l w.es;
+      is = w.is;
+      appended = named (ap (λ (x : List ℕ). take 12 (drop 4 l) ++ x) b)
+          (also a v.appended);
+    }
   where
     empty : (xs : List (List Field)) → length xs ≡ 0 → xs ≡ []
     empty [] k = refl

@@ -19,12 +19,17 @@ pub returns-in_err-output : goal.returns-in_err-output
 unfolding convert_answer convert_left
 returns-in_err-output c =
     let l = c.args.ledger.now in
-    short (id_of l) c.args.out.now (converted c.args.edition l) (search rules) c.in_ok-measured.ensures.to.1 c.in_err-output.ensures
+    short (id_of l) c.args.out.now (converted c.args.edition l)
+    (search rules) c.in_ok-measured.ensures.to.1 c.in_err-output.ensures
 
 pub overflow_sub-output : goal.overflow_sub-output
 overflow_sub-output c =
     let b = below_of 256 c.args.ledger.now (λ i. omega (arith, c.type_inv.ledger i)) in
-    omega (arith, four c.args.edition c.args.ledger.now c.args.out.now b c.in_ok-measured.ensures.to.1 c.in_ok-output.ensures)
+    omega (
+      arith,
+      four c.args.edition c.args.ledger.now c.args.out.now b c.in_ok-measured.ensures.to.1
+          c.in_ok-output.ensures,
+    )
 
 pub returns-in_err-convert_content : goal.returns-in_err-convert_content
 returns-in_err-convert_content c =
@@ -37,5 +42,6 @@ unfolding convert_answer convert_left
 returns c =
     let l = c.args.ledger.now in
     let m = c.in_ok-measured.ensures.to in
-    stored (id_of l) c.args.out.now (converted c.args.edition l) m.1 c.in_ok-output.ensures c.append_pair-version.ensures.appended c.append.ensures
+    stored (id_of l) c.args.out.now (converted c.args.edition l) m.1 c.in_ok-output.ensures
+    c.append_pair-version.ensures.appended c.append.ensures
     c.in_ok-convert_content.ensures.to c.version.ensures m.0.named

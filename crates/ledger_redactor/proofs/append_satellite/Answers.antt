@@ -4,4 +4,5 @@ use Rattle.ledger_redactor.proofs.Sizes.{in_pieces}
 use Rattle.ledger_redactor.proofs.append_satellite.Goals as goal
 
 pub returns : goal.returns
-returns c = in_pieces c.args.ledger.now c.args.place c.args.end c.append-flag.ensures c.append-rest.ensures c.append.ensures
+returns c = in_pieces c.args.ledger.now c.args.place c.args.end c.append-flag.ensures c.append-rest.ensures
+    c.append.ensures

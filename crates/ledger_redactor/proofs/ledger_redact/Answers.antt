@@ -34,5 +34,6 @@ unfolding redact_answer redact_left
 returns c =
     let l = c.args.ledger.now in
     let m = c.in_ok-measured.ensures.to in
-    stored (id_of l) c.args.out.now (redacted l) m.1 c.in_ok-output.ensures c.append_pair-version.ensures.appended c.append.ensures
+    stored (id_of l) c.args.out.now (redacted l) m.1 c.in_ok-output.ensures c.append_pair-version.ensures.appended
+    c.append.ensures
     c.redact_content.ensures (c.version.ensures ∙ ap version m.0.edition) m.0.named
