@@ -1,5 +1,5 @@
-/* Ledgers made here, with what is wanted of them worked out by hand: damaged ones that every call refuses by the same
- * numbers, and long ones. For pages.c, which defines _DEFAULT_SOURCE in front of it. */
+/* Ledgers made here, with what is wanted of them worked out by hand: damaged ones that every call which takes a
+ * ledger refuses by the same numbers, and long ones. For pages.c, which defines _DEFAULT_SOURCE in front of it. */
 #ifndef MADE_H
 #define MADE_H
 

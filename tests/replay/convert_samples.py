@@ -1,7 +1,7 @@
 """Picked ledgers for S-19, with what each edition's call gives, worked out by hand from documents 01 and 02.
 
 PICKED: (name, ledger, in edition 1, in edition 2). An answer is a ledger or a refusal; SAME is the ledger as it came.
-Numbers in the names are plan lengths. `shelf` and `front` are of edition 1, `plans` and `entry` of edition 2.
+Numbers in the names are plan lengths. `plans_1` and `front` are of edition 1, `plans` and `entry` of edition 2.
 
 Places are counted as in samples_2.py. A mode 0 plan has 55 bytes with its filler's count, so of plans in edition 2 a
 second one starts at 61; a raw plan without bytes has 35. In edition 1 they have 51 and 31.
@@ -17,7 +17,7 @@ def front(mode, own, table_id="00000000"):
     return table_id + f"00 00 {mode:02x}" + CLOCK * 2 + own
 
 
-def shelf(count, *entries):
+def plans_1(count, *entries):
     return any_listed(3, f"{count:04x}" + "".join(entries), 1)
 
 
@@ -72,19 +72,19 @@ PICKED = [
     *versions("id 4, flags without metadata", 4, HEADER + "0001 00000007 00 00 01 01 00 00 0000"),
     # A plan of each mode: 12 bytes behind the 13, 4 and its slots, 24, the raw bytes.
     *both("P8", P8_LINE, P8),
-    *both("bitmap of 3", shelf(1, front(1, SLOTSES)), plans(1, entry(18, 1, SLOTSES))),
-    *both("bitmap of 9", shelf(1, front(1, NINE)), plans(1, entry(19, 1, NINE))),
-    *both("bitmap of none", shelf(1, front(1, NO_SLOTS)), plans(1, entry(17, 1, NO_SLOTS))),
-    *both("grid", shelf(1, front(2, GRIDS)), plans(1, entry(37, 2, GRIDS))),
-    *both("raw 2", shelf(1, front(3, TWO)), plans(1, RAW_2)),
-    *both("raw 0", shelf(1, front(3, NONE)), plans(1, RAW_0)),
+    *both("bitmap of 3", plans_1(1, front(1, SLOTSES)), plans(1, entry(18, 1, SLOTSES))),
+    *both("bitmap of 9", plans_1(1, front(1, NINE)), plans(1, entry(19, 1, NINE))),
+    *both("bitmap of none", plans_1(1, front(1, NO_SLOTS)), plans(1, entry(17, 1, NO_SLOTS))),
+    *both("grid", plans_1(1, front(2, GRIDS)), plans(1, entry(37, 2, GRIDS))),
+    *both("raw 2", plans_1(1, front(3, TWO)), plans(1, RAW_2)),
+    *both("raw 0", plans_1(1, front(3, NONE)), plans(1, RAW_0)),
     *both("all fields set", any_listed(3, "0001 01020304 0a 2a 00" + SET_CLOCKS * 4),
           plans(1, "01020304 0a 0019 2a 00" + SET_CLOCKS * 4 + "0000")),
     # Several plans.
-    *both("two", shelf(2, FIRST_0, FIRST_0), plans(2, EXACT, EXACT)),
-    *both("each mode", shelf(4, FIRST_0, front(1, SLOTSES), front(2, GRIDS), front(3, TWO)),
+    *both("two", plans_1(2, FIRST_0, FIRST_0), plans(2, EXACT, EXACT)),
+    *both("each mode", plans_1(4, FIRST_0, front(1, SLOTSES), front(2, GRIDS), front(3, TWO)),
           plans(4, EXACT, entry(18, 1, SLOTSES), entry(37, 2, GRIDS), RAW_2)),
-    *both("raw 2, raw 0", shelf(2, front(3, TWO), front(3, NONE)), plans(2, RAW_2, RAW_0)),
+    *both("raw 2, raw 0", plans_1(2, front(3, TWO), front(3, NONE)), plans(2, RAW_2, RAW_0)),
     # 29, each form alone: filler, an end past the data, both, raw plans past the data.
     *kept("26, filler of 1", plans(1, REMARK), 0),
     *kept("28, filler of 3", plans(1, named(28, 0, DWELLS, "ddeeff")), 0),
@@ -125,15 +125,15 @@ PICKED = [
     # A field missing, bytes over, a wide value, in either edition.
     *alike("no count, edition 1", "00020103", "R 23 4 0"),
     *alike("no count, edition 2", "00020203", "R 23 4 0"),
-    *alike("a plan is missing, edition 1", shelf(2, FIRST_0), "R 23 57 0"),
-    *alike("a byte over, edition 1", shelf(1, FIRST_0, "00"), "R 23 57 0"),
+    *alike("a plan is missing, edition 1", plans_1(2, FIRST_0), "R 23 57 0"),
+    *alike("a byte over, edition 1", plans_1(1, FIRST_0, "00"), "R 23 57 0"),
     *alike("a byte over, edition 2", plans(1, EXACT, "00"), "R 23 61 0"),
     *alike("P8 of edition 2 under version 1", P8.replace("003b02", "003b01"), "R 25 12 0"),
     *alike("P8 of edition 1 under version 2", P8_LINE.replace("003701", "003702"), "R 23 57 0"),
     *alike("id 0, wide, edition 1", any_listed(0, "0001 01" + SATELLITE[2:], 1), "R 25 6 0"),
     *alike("id 0, wide, edition 2", any_listed(0, "0001 01" + SATELLITE[2:], 2), "R 25 6 0"),
     *alike("id 2, a byte over, edition 1", any_listed(2, "00 00" + CLOCK + TIME + "00", 1), "R 23 29 0"),
-    *alike("unused slot bit, edition 1", shelf(1, front(1, "00 0003 00 0002 f0")), "R 25 41 0"),
+    *alike("unused slot bit, edition 1", plans_1(1, front(1, "00 0003 00 0002 f0")), "R 25 41 0"),
     *alike("unused slot bit, edition 2", plans(1, entry(18, 1, "00 0003 00 0002 f0")), "R 25 43 0"),
     *alike("plan_length wide", plans(1, WIDE), "R 25 11 0"),
     *alike("filler missing", plans(1, entry(26, 0, DWELLS, "", 1)), "R 23 61 0"),
@@ -154,16 +154,16 @@ PICKED = [
     *kept("kept 4,096, plain 31", plans(1, entry(4090, 0, DWELLS, "5a" * 4065)), 0),
     *alike("kept 4,097, plain 31", plans(1, entry(4091, 0, DWELLS, "5a" * 4066)), "R 26 4097 4096"),
     *alike("kept 4,100, plain 62", plans(2, EXACT, entry(4063, 0, DWELLS, "5a" * 4038)), "R 26 4100 4096"),
-    *alike("raw 4,083 in edition 1: plain 4,102", shelf(1, front(3, "0ff3" + "a5" * 4083)), "R 26 4102 4096"),
+    *alike("raw 4,083 in edition 1: plain 4,102", plans_1(1, front(3, "0ff3" + "a5" * 4083)), "R 26 4102 4096"),
     *alike("id 9, 4,097 bytes, edition 1", any_listed(9, "00" * 4097, 1), "R 26 4097 4096"),
-    ("raw 4,077: plain 4,096, 1 to 2", shelf(1, front(3, "0fed" + "a5" * 4077)), SAME,
+    ("raw 4,077: plain 4,096, 1 to 2", plans_1(1, front(3, "0fed" + "a5" * 4077)), SAME,
      plans(1, entry(4090, 3, "0fed" + "a5" * 4077))),
     # S-23: an extension above 299 moves as any other.
-    *both("all 511", shelf(1, "00000000 00 00 02" + LATE), plans(1, "00000000 00 0025 00 02" + LATE + "0000")),
-    *both("raw, application 300", shelf(1, "00000000 00 00 03" + clocks_listed(300, 0) + NONE),
+    *both("all 511", plans_1(1, "00000000 00 00 02" + LATE), plans(1, "00000000 00 0025 00 02" + LATE + "0000")),
+    *both("raw, application 300", plans_1(1, "00000000 00 00 03" + clocks_listed(300, 0) + NONE),
           plans(1, "00000000 00 000d 00 03" + clocks_listed(300, 0) + "0000 0000")),
     *versions("id 1, 300 and 511", 1, "0001" + cell_listed([300], [511])),
     *versions("id 2, 300", 2, "00 00" + clocks_listed(300) + TIME),
     *kept("on time 300, filler", plans(1, "00000000 00 001a 00 00" + clocks_listed(0, 0, 0, 300) + "0001 aa"), 0),
-    *alike("on time 512, edition 1", shelf(1, "00000000 00 00 00" + clocks_listed(300, 0, 0, 512)), "R 25 55 0"),
+    *alike("on time 512, edition 1", plans_1(1, "00000000 00 00 00" + clocks_listed(300, 0, 0, 512)), "R 25 55 0"),
 ]

@@ -8,7 +8,7 @@ A satellite without anything has 12 bytes, 6 in the body; an ephemeris entry has
 """
 
 from convert_samples import FIRST_0, OPEN, RAW_2, REMARK, SATELLITE
-from convert_samples import shelf as first_plans
+from convert_samples import plans_1 as first_plans
 from samples import CLOCK, HEADER, P3_LINE, TIME, cell_listed, clocks_listed, listed
 from samples_2 import DWELLS, EXACT, SAME, entry, plans
 

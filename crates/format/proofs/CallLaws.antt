@@ -2,7 +2,7 @@
 -- Assumes nothing.
 use mathlib.Core.Path.{◌≡◌, refl, sym, ap, ap₂, ◌∙◌, subst}
 use mathlib.Core.Bool.{Bool, true, false, cond}
-use mathlib.Core.Logic.{◌↔◌}
+use mathlib.Core.Logic.{◌↔◌, ◌⊎◌, inl, inr}
 use mathlib.Core.List.{List, []}
 use Prim.Native.Nat.{ℕ, ◌+◌, ◌*◌, ◌<◌, ◌≤◌}
 use native.Mathlib.Nat.{zero-add}
@@ -119,6 +119,31 @@ result_given id out xs rest p e h =
       behind = drop-append_seam xs (drop (0 + length xs) out) ∙ ap (λ (k : ℕ). drop k out) (zero-add (length xs));
     })
 
+-- what an accepted call left at the buffer's start is the result, and there was room for it
+pub accepted_left : {xs : List ℕ} (id : ℕ) (out : List ℕ) (p : Parse (List ℕ))
+    → number_of (answer id (length out) p) ≡ 0 → result_in (answer id (length out) p) (left out p) ≡ xs
+    → (rest : List ℕ) × (p ≡ got xs rest) × (length xs ≤ length out)
+accepted_left id out p a r =
+    let o = accepts_result id (length out) p a in
+    let g = result_given id out o.0 o.1 p o.2 o.3 in
+    let e = sym g.result ∙ r in
+    (o.1, rw e at o.2, rw e at o.3)
+
+-- an answer that is a refusal: p's own, or 22, of a result that is longer than the buffer
+pub answer_err : {f : Refusal} (id room : ℕ) (p : Parse (List ℕ)) → answer id room p ≡ Err f
+    → (p ≡ refused f.fault f.need f.have)
+    ⊎ ((xs : List ℕ) × (rest : List ℕ) × (p ≡ got xs rest) × (f ≡ refuse BufferTooShort (length xs) room))
+unfolding answer
+answer_err {f} id room (refused x y z) e =
+    let q : refuse x y z ≡ f = cc in
+    inl (ap (λ (r : Refusal). refused r.fault r.need r.have) q)
+answer_err {f} id room (got xs rest) e = inr (xs, rest, refl, go (leb (length xs) room) e)
+  where
+    go : (t : Bool) → cond t (done id (length xs)) (Err (refuse BufferTooShort (length xs) room)) ≡ Err f
+        → f ≡ refuse BufferTooShort (length xs) room
+    go true q = absurd cc
+    go false q = let z : refuse BufferTooShort (length xs) room ≡ f = cc in sym z
+
 -- ---- an edition's writer
 
 filed_table : (ed : Edition) (id : ℕ) (b xs rest : List ℕ) → filed ed id b ≡ got xs rest → (t : Table) × (body_read id b ≡ got t []) × (xs ≡ ledger_of ed id t)
@@ -155,11 +180,9 @@ pub wrote_accepted : {ed : Edition} {id : ℕ} {b out l : List ℕ} → id < 256
     → (t : Table) × Accepted id b t × (ledger_of ed id t ≡ l) × (length l ≤ length out)
 unfolding write_answer write_left
 wrote_accepted {ed} {id} {b} {out} {l} hi hb w =
-    let o = accepts_result id (length out) (filed ed id b) w.accepts in
-    let q = filed_table ed id b o.0 o.1 o.2 in
-    let g = result_given id out o.0 o.1 (filed ed id b) o.2 o.3 in
-    let e : o.0 ≡ l = sym g.result ∙ w.result in
-    (q.0, record { byte = hi; bytes = hb; reads = q.1 }, sym q.2 ∙ e, rw e at o.3)
+    let o = accepted_left id out (filed ed id b) w.accepts w.result in
+    let q = filed_table ed id b l o.0 o.1 in
+    (q.0, record { byte = hi; bytes = hb; reads = q.1 }, sym q.2, o.2)
 
 -- ---- the reader
 
@@ -180,10 +203,10 @@ read_gave {l} {t} out e h =
 pub gave_read : {l out b : List ℕ} {id : ℕ} → Gave l out id b → (t : Table) × (ledger_read l ≡ got t []) × (id_of l ≡ id) × (body_of (edition_of l) t ≡ b)
 unfolding read_answer read_left
 gave_read {l} {out} {b} {id} w =
-    let o = accepts_result (id_of l) (length out) (restored l) w.accepts in
-    let q = restored_table l o.0 o.1 o.2 in
-    let g = result_given (id_of l) out o.0 o.1 (restored l) o.2 o.3 in
-    (q.0, q.1, sym g.table_id_is ∙ w.table_id_is, sym q.2 ∙ sym g.result ∙ w.result)
+    let o = accepted_left (id_of l) out (restored l) w.accepts w.result in
+    let q = restored_table l b o.0 o.1 in
+    let g = result_given (id_of l) out b o.0 (restored l) o.1 o.2 in
+    (q.0, q.1, sym g.table_id_is ∙ w.table_id_is, sym q.2)
 
 enough_body : (l : List ℕ) (t : Table) (room : ℕ) → ledger_read l ≡ got t [] → Enough room (restored l) → length (body_of (edition_of l) t) ≤ room
 unfolding restored

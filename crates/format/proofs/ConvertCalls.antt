@@ -24,7 +24,7 @@ use Rattle.format.proofs.ParseLaws.{cond_got, then_got}
 use Rattle.format.proofs.TableLaws.{fine_layout, form_of}
 use Rattle.format.proofs.Demand.{IsLedger, fine_then, accepted_good, accepted_before, body_again, ledger_all, ledger_length, ledger_again, id_of_lem}
 use Rattle.format.proofs.PlanlessLaws.{form_of_2}
-use Rattle.format.proofs.CallLaws.{refused_keeps, accepts_result, Given, result_given, accepted_wrote, wrote_accepted, gave_read}
+use Rattle.format.proofs.CallLaws.{refused_keeps, accepts_result, Given, result_given, accepted_left, answer_err, accepted_wrote, wrote_accepted, gave_read}
 use Rattle.format.proofs.LedgerFaults.{AsLedger, ledger_faults}
 use Rattle.format.proofs.ConvertLaws.{Lost, fields_converted, read_body_accepted, Outcome, same_fields, loses, outcome, own_faults, accepted_conversion, result_id, result_edition, there_and_back, copied, to_second, to_first, same_body, result_stored, result_now, result_length}
 
@@ -63,11 +63,9 @@ converted_moved {ed} {l} {out} {l'} {rest} e h =
 pub moved_converted : {ed : Edition} {l out l' : List ℕ} → Moved ed l out l'
     → (converted ed l ≡ got l' []) × (length l' ≤ length out)
 unfolding convert_answer convert_left
-moved_converted {ed} {l} {out} {l'} m =
-    let o = accepts_result (id_of l) (length out) (converted ed l) m.accepts in
-    let g = result_given (id_of l) out o.0 o.1 (converted ed l) o.2 o.3 in
-    let e : o.0 ≡ l' = sym g.result ∙ m.result in
-    (rw (converted_all ed l o.2, e) at o.2, rw e at o.3)
+moved_converted {ed} {l} {out} m =
+    let o = accepted_left (id_of l) out (converted ed l) m.accepts m.result in
+    (rw (converted_all ed l o.1) at o.1, o.2)
 
 -- the table id and the length that an accepted call names, the result, and behind it the old values
 pub moved_given : {ed : Edition} {l out l' : List ℕ} → Moved ed l out l'
@@ -221,20 +219,6 @@ moved_few ed l h e =
 
 -- ---- 29
 
--- an answer that is a refusal: that of the result, or 22
-answer_err : {f : Refusal} (id room : ℕ) (p : Parse (List ℕ)) → answer id room p ≡ Err f
-    → (p ≡ refused f.fault f.need f.have) ⊎ (f.fault ≡ BufferTooShort)
-unfolding answer
-answer_err {f} id room (refused x y z) e =
-    let q : refuse x y z ≡ f = cc in
-    inl (ap (λ (r : Refusal). refused r.fault r.need r.have) q)
-answer_err {f} id room (got xs rest) e = go (leb (length xs) room) e
-  where
-    go : (t : Bool) → cond t (done id (length xs)) (Err (refuse BufferTooShort (length xs) room)) ≡ Err f
-        → (got xs rest ≡ refused f.fault f.need f.have) ⊎ (f.fault ≡ BufferTooShort)
-    go true q = absurd cc
-    go false q = let z : refuse BufferTooShort (length xs) room ≡ f = cc in inr (sym (ap (λ (r : Refusal). r.fault) z))
-
 -- what a refusal by 29 says: a ledger of plans that is read, of edition 2, is to go to edition 1, and the index is that
 -- of its first plan that is not exact
 pub record Inexact (ed : Edition) (l : List ℕ) (f : Refusal) : Type 0 where
@@ -272,6 +256,10 @@ refused_lost {ed} {l} room {f} h e x = go (answer_err (id_of l) room (converted 
         let y : a ≡ PlanInexact = cc in
         absurd (omega (arith, rw y at k))
 
-    go : (converted ed l ≡ refused f.fault f.need f.have) ⊎ (f.fault ≡ BufferTooShort) → Inexact ed l f
+    go : (converted ed l ≡ refused f.fault f.need f.have)
+        ⊎ ((xs : List ℕ) × (rest : List ℕ) × (converted ed l ≡ got xs rest)
+        × (f ≡ refuse BufferTooShort (length xs) room)) → Inexact ed l f
     go (inl r) = by_reading (ledger_read l) refl (ledger_faults l) r
-    go (inr r) = let z : BufferTooShort ≡ PlanInexact = sym r ∙ x in absurd cc
+    go (inr r) =
+        let z : BufferTooShort ≡ PlanInexact = sym (ap (λ (g : Refusal). g.fault) r.3) ∙ x in
+        absurd cc

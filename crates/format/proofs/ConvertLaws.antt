@@ -126,7 +126,7 @@ lossless_all Second es p e = refl
 
 -- ---- a ledger that is read
 
-inj : {t u : Table} → got t [] ≡ got u [] → t ≡ u
+pub inj : {t u : Table} → got t [] ≡ got u [] → t ≡ u
 inj e = cc
 
 -- where a ledger is read it has its length in front, and that length fits
@@ -143,7 +143,8 @@ module _ (l : List ℕ) (t : Table) (h : Below 256 l) (e : ledger_read l ≡ got
   pub read_body_accepted : AcceptedBefore (id_of l) (body_of (edition_of l) t) t
   read_body_accepted = (read_accepted l t h e).0
 
-  good : GoodTable (layout_before (layout (id_of l))) t
+  -- and they are fields that its description allowed
+  pub good : GoodTable (layout_before (layout (id_of l))) t
   good = (accepted_good (fine_then (id_of l)) read_body_accepted).0
 
   -- the ledger's fields come back through its edition as they are

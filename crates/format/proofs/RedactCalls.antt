@@ -18,13 +18,12 @@ use Rattle.format.specs.declared.Fault.TheVariants.{BufferTooShort}
 use Rattle.format.specs.declared.Edition.{Edition}
 use Rattle.format.specs.Whole.{Table, entries_of, Accepted, AcceptedBefore, body_of, ledger_of, id_of, edition_of, ledger_read}
 use Rattle.format.specs.Calls.{done, number_of, answer, left, Enough, restored, Gave}
-use Rattle.format.specs.Redact.{redact, satellites, redacted, redact_answer, redact_left, Copied, SameOthers}
-use Rattle.format.proofs.ParseLaws.{then_got}
+use Rattle.format.specs.Redact.{Clean, redact, satellites, redacted, redact_answer, redact_left, Copied, SameOthers}
+use Rattle.format.proofs.ParseLaws.{got_not_refused, then_got}
 use Rattle.format.proofs.Demand.{IsLedger, fine_then, accepted_good, ledger_all, ledger_length, read_accepted}
-use Rattle.format.proofs.CallLaws.{refused_keeps, accepts_result, Given, result_given, read_gave, gave_read}
+use Rattle.format.proofs.CallLaws.{refused_keeps, accepts_result, Given, result_given, accepted_left, answer_err, read_gave, gave_read}
 use Rattle.format.proofs.ConvertLaws.{read_body_accepted}
-use Rattle.format.proofs.RedactOthers.{Clean}
-use Rattle.format.proofs.RedactLaws.{copy_is, redact_faults, unaltered, accepted_copy, copy_stored, copy_now, copy_length, copy_of_copy, copy_others, copy_clean, same_copies}
+use Rattle.format.proofs.RedactLaws.{copy_is, redact_faults, unaltered, accepted_copy, copy_stored, copy_now, copy_length, copy_of_copy, copy_others, copy_clean, same_copies, same_exactly}
 
 -- ---- an accepted call and the copy
 
@@ -47,11 +46,9 @@ redacted_copied {l} {out} {l'} {rest} e h =
 -- what is left there is the copy, and there was room
 pub copied_redacted : {l out l' : List ℕ} → Copied l out l' → (redacted l ≡ got l' []) × (length l' ≤ length out)
 unfolding redact_answer redact_left
-copied_redacted {l} {out} {l'} m =
-    let o = accepts_result (id_of l) (length out) (redacted l) m.accepts in
-    let g = result_given (id_of l) out o.0 o.1 (redacted l) o.2 o.3 in
-    let e : o.0 ≡ l' = sym g.result ∙ m.result in
-    (rw (redacted_all l o.2, e) at o.2, rw e at o.3)
+copied_redacted {l} {out} m =
+    let o = accepted_left (id_of l) out (redacted l) m.accepts m.result in
+    (rw (redacted_all l o.1) at o.1, o.2)
 
 -- the table id and the length that an accepted call names, the copy, and behind it the old values
 pub copied_given : {l out l' : List ℕ} → Copied l out l'
@@ -99,35 +96,39 @@ pub redact_refusals : {f : Refusal} (l : List ℕ) (room : ℕ) → redact_answe
     → (ledger_read l ≡ refused f.fault f.need f.have)
     ⊎ ((t : Table) × (ledger_read l ≡ got t [])
     × (f ≡ refuse BufferTooShort (length (ledger_of (edition_of l) (id_of l) (satellites redact (id_of l) t))) room))
-unfolding redact_answer answer
-redact_refusals {f} l room e = go (ledger_read l) refl
+unfolding redact_answer redacted
+redact_refusals {f} l room e = go (answer_err (id_of l) room (redacted l) e)
   where
     copy : Table → List ℕ
     copy t = ledger_of (edition_of l) (id_of l) (satellites redact (id_of l) t)
 
-    short : (xs : List ℕ) (t : Bool)
-        → cond t (done (id_of l) (length xs)) (Err (refuse BufferTooShort (length xs) room)) ≡ Err f
-        → f ≡ refuse BufferTooShort (length xs) room
-    short xs true q = absurd cc
-    short xs false q = let z : refuse BufferTooShort (length xs) room ≡ f = cc in sym z
-
-    go : (p : Parse Table) → ledger_read l ≡ p
-        → (ledger_read l ≡ refused f.fault f.need f.have)
-        ⊎ ((t : Table) × (ledger_read l ≡ got t [])
-        × (f ≡ refuse BufferTooShort (length (copy t)) room))
-    go (refused a b c) q =
-        let s : Err (refuse a b c) ≡ Err f = sym (ap (answer (id_of l) room) (redact_faults l a b c q)) ∙ e in
-        let z : refuse a b c ≡ f = cc in
-        inl (q ∙ ap (λ (r : Refusal). refused r.fault r.need r.have) z)
-    go (got t rest) q =
+    own : (p : Parse Table) → ledger_read l ≡ p → redacted l ≡ refused f.fault f.need f.have
+        → ledger_read l ≡ refused f.fault f.need f.have
+    own (got t rest) q r =
         let s : ledger_read l ≡ got t [] = rw (ledger_all l q) at q in
-        let z = sym (ap (answer (id_of l) room) (copy_is l t s)) ∙ e in
-        inr (t, s, short (copy t) (leb (length (copy t)) room) z)
+        absurd (got_not_refused (sym (copy_is l t s) ∙ r))
+    own (refused a b c) q r =
+        let z : ◌≡◌ {A = Parse (List ℕ)} (refused a b c) (refused f.fault f.need f.have) =
+        sym (redact_faults l a b c q) ∙ r in
+        let w : ◌≡◌ {A = Parse Table} (refused a b c) (refused f.fault f.need f.have) = cc in
+        q ∙ w
+
+    go : (redacted l ≡ refused f.fault f.need f.have)
+        ⊎ ((xs : List ℕ) × (rest : List ℕ) × (redacted l ≡ got xs rest)
+        × (f ≡ refuse BufferTooShort (length xs) room))
+        → (ledger_read l ≡ refused f.fault f.need f.have)
+        ⊎ ((t : Table) × (ledger_read l ≡ got t []) × (f ≡ refuse BufferTooShort (length (copy t)) room))
+    go (inl r) = inl (own (ledger_read l) refl r)
+    go (inr r) =
+        let o = then_got (ledger_read l) (λ t _. got (copy t) []) r.2 in
+        let same : got (copy o.0) [] ≡ got r.0 r.1 = o.3 in
+        let z : r.0 ≡ copy o.0 = cc in
+        inr (o.0, rw (ledger_all l o.2) at o.2, r.3 ∙ ap (λ (xs : List ℕ). refuse BufferTooShort (length xs) room) z)
 
 -- ---- what a caller is told
 
--- "Of two accepted ledgers that differ only in covariance flags and parts, and so in length, the grazier's copies are
--- the same bytes, and so is the size named when a buffer is too small": the calls answer and leave the same
+-- Of two accepted ledgers that "differ only in covariance flags and parts, and so in length", the copies "are the same
+-- bytes, and so is the size named when a buffer is too small": the calls answer and leave the same
 pub copied_alike : {l l' : List ℕ} → SameOthers l l' → Below 256 l → Below 256 l'
     → ((room : ℕ) → redact_answer l room ≡ redact_answer l' room)
     × ((out : List ℕ) → redact_left l out ≡ redact_left l' out)
@@ -135,6 +136,14 @@ unfolding redact_answer redact_left
 copied_alike {l} {l'} s h h' =
     let e : redacted l ≡ redacted l' = same_copies s h h' in
     (λ room. ap₂ (λ (k : ℕ) (p : Parse (List ℕ)). answer k room p) s.id e, λ out. ap (left out) e)
+
+-- and only they are: ledgers that have one copy differ in nothing but covariance
+pub copied_only : {l l' out out' c : List ℕ} → Below 256 l → Below 256 l' → Copied l out c → Copied l' out' c
+    → SameOthers l l'
+copied_only {l} {l'} h h' m m' =
+    let e = (copied_redacted m).0 in
+    let r = accepted_copy l h e in
+    (same_exactly l l' h h').1 (r.table, r.reads, e ∙ sym (copied_redacted m').0)
 
 -- "The copy is itself an accepted ledger of its edition": under the same id, of a body accepted before
 pub copied_ledger : {l out l' : List ℕ} → Below 256 l → Copied l out l'

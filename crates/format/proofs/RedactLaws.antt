@@ -14,12 +14,11 @@ use Rattle.format.specs.Syntax.{Field, got, refused}
 use Rattle.format.specs.declared.Fault.{Fault}
 use Rattle.format.specs.declared.Edition.{Edition}
 use Rattle.format.specs.Whole.{layout, layout_before, Table, entries_of, Accepted, AcceptedBefore, kept_of, ledger_of, id_of, edition_of, ledger_read}
-use Rattle.format.specs.Redact.{redact, others, each, satellites, redacted, SameOthers}
+use Rattle.format.specs.Redact.{Clean, redact, others, each, satellites, redacted, SameOthers}
 use Rattle.format.proofs.ParseLaws.{then_got}
 use Rattle.format.proofs.TableLaws.{fine_layout, GoodTable, form_of}
 use Rattle.format.proofs.Demand.{IsLedger, fine_then, accepted_good, accepted_before, body_again, ledger_all, ledger_again, read_accepted, id_of_lem, edition_of_lem}
-use Rattle.format.proofs.ConvertLaws.{read_body_accepted, own_form}
-use Rattle.format.proofs.RedactOthers.{Clean}
+use Rattle.format.proofs.ConvertLaws.{inj, read_body_accepted, good, own_form}
 use Rattle.format.proofs.RedactTables.{each_clean, under, under_now, under_form, under_size, under_again, under_others, under_same}
 
 -- ---- a ledger that is read, and one that is refused
@@ -47,9 +46,6 @@ unaltered l t h e n =
 
 -- ---- the copy
 
-inj : {t u : Table} → got t [] ≡ got u [] → t ≡ u
-inj e = cc
-
 -- a copy: of which fields it is the ledger, and that it is read as them
 pub record Redacts (l l' : List ℕ) : Type 0 where
   pub table : Table
@@ -60,15 +56,12 @@ pub record Redacts (l l' : List ℕ) : Type 0 where
   pub again : ledger_read l' ≡ got (satellites redact (id_of l) table) []
 
 module _ (l : List ℕ) (t : Table) (h : Below 256 l) (e : ledger_read l ≡ got t []) where
-  good : GoodTable (layout_before (layout (id_of l))) t
-  good = (accepted_good (fine_then (id_of l)) (read_body_accepted l t h e)).0
-
   -- the fields without covariance come back through the ledger's edition as they are
   copy_reads : ledger_read (ledger_of (edition_of l) (id_of l) (satellites redact (id_of l) t))
       ≡ got (satellites redact (id_of l) t) []
   copy_reads =
       ledger_again (edition_of l) (under (id_of l) (read_body_accepted l t h e))
-      ∙ ap (λ (x : Table). got x []) (under_form (id_of l) (edition_of l) t good (own_form l t h e))
+      ∙ ap (λ (x : Table). got x []) (under_form (id_of l) (edition_of l) t (good l t h e) (own_form l t h e))
 
 pub accepted_copy : (l : List ℕ) {l' rest : List ℕ} → Below 256 l → redacted l ≡ got l' rest → Redacts l l'
 unfolding redacted
@@ -162,7 +155,7 @@ copy_clean l t h e i =
     subst (λ (k : ℕ). GoodTable (layout_before (layout k)) t) i (good l t h e) in
     rw i (each_clean g)
 
--- "Of two accepted ledgers that differ only in covariance flags and parts ... the grazier's copies are the same bytes"
+-- Of two accepted ledgers that "differ only in covariance flags and parts" the copies "are the same bytes"
 pub same_copies : {l l' : List ℕ} → SameOthers l l' → Below 256 l → Below 256 l' → redacted l ≡ redacted l'
 same_copies {l} {l'} s h h' =
     let i : ℕ = id_of l in

@@ -11,7 +11,7 @@ use Rattle.format.specs.Syntax.{Name, Sign, unsigned, Syntax, end, field, when, 
 use Rattle.format.specs.Tables.{u, times, usable, metadata, motion, acceleration, ephemeris, covariance, ephemerides, position3}
 use Rattle.format.specs.declared.Fault.TheVariants.{UsableStartCut, UsableStopCut}
 use Rattle.format.specs.ByName.{name, number_in}
-use Rattle.format.specs.Redact.{is_flag, is_part, redact, others}
+use Rattle.format.specs.Redact.{Clean, is_flag, is_part, redact, others}
 use Rattle.format.proofs.Good.{Good, g_end, g_field, g_yes, g_no, g_need, g_most, g_slots, g_plan, g_raw}
 use Rattle.format.proofs.RedactFields.{Ordinary, redact_by, others_by}
 
@@ -158,11 +158,6 @@ pub same_redact : {l m i j : Bool} {ts us : List Field} → Good l i (before pos
 same_redact r q e = with_flag r ∙ ap (insert 6) e ∙ sym (with_flag q)
 
 -- ---- nothing of covariance is left
-
--- a field that has nothing of covariance: it is not of the part, and if it is the flag, its number is 0
-pub record Clean (t : Field) : Type 0 where
-  pub no_part : is_part (name t) ≡ false
-  pub zero_flag : is_flag (name t) ≡ true → number_in t ≡ 0
 
 -- another field is neither
 abbrev Other : Field → Type 0

@@ -19,7 +19,7 @@ use Rattle.format.specs.Tables.{position3}
 use Rattle.format.specs.Body.{kept}
 use Rattle.format.specs.Ledger.{ledger}
 use Rattle.format.specs.Whole.{Layout, layout, layout_before, Table, one, list, as_it_is, entries_of, AcceptedAs, Accepted, AcceptedBefore, laids, ledgers, body_of, kept_of, content_of, version, ledger_of}
-use Rattle.format.specs.Redact.{redact, others, each, satellites}
+use Rattle.format.specs.Redact.{Clean, redact, others, each, satellites}
 use Rattle.format.proofs.DigitLaws.{length_digits, length_bytes}
 use Rattle.format.proofs.Good.{Good}
 use Rattle.format.proofs.EntryLaws.{AllGood}
@@ -29,7 +29,7 @@ use Rattle.format.proofs.EditionLaws.{planless_layout}
 use Rattle.format.proofs.PlanlessLaws.{planless_before_layout, planless_table, form_of_2}
 use Rattle.format.proofs.RedactFields.{kept_shorter, ledger_shorter, redact_again, others_kept}
 use Rattle.format.proofs.RedactGood.{redact_good, redact_good_before}
-use Rattle.format.proofs.RedactOthers.{same_redact, Clean, redact_clean}
+use Rattle.format.proofs.RedactOthers.{same_redact, redact_clean}
 
 -- ---- entries
 

@@ -1,9 +1,9 @@
 -- S-31: an ephemeris ledger without covariance, and the call that makes it.
 -- Assumes nothing: these are definitions.
-use Rattle.std.specs.Prelude.{ℕ, ◌≡◌, Bool, cond, not, ◌||◌, List, [], ◌∷◌, map, filter, eqb, length, Result}
+use Rattle.std.specs.Prelude.{ℕ, ◌≡◌, Bool, true, false, cond, not, ◌||◌, List, [], ◌∷◌, map, filter, eqb, length, Result}
 use lib.Text.{eqt}
 use Rattle.format.specs.Syntax.{Name, Field, num, flags, bytes, len, filler, Parse, got, and_then}
-use Rattle.format.specs.ByName.{name}
+use Rattle.format.specs.ByName.{name, number_in}
 use Rattle.format.specs.Whole.{Table, one, list, as_it_is, ledger_of, id_of, edition_of, ledger_read}
 use Rattle.format.specs.Calls.{number_of, answer, left, result_in}
 use Rattle.format.specs.declared.Refusal.{Refusal}
@@ -44,6 +44,11 @@ each f (as_it_is b) = as_it_is b
 -- "for every satellite"; under another id than 4 all stays as it is
 unfoldable pub satellites : (List Field → List Field) → ℕ → Table → Table
 satellites f id t = cond (eqb id 4) (each f t) t
+
+-- a field that has nothing of covariance: it is not of the part, and if it is the flag, its number is 0
+pub record Clean (t : Field) : Type 0 where
+  pub no_part : is_part (name t) ≡ false
+  pub zero_flag : is_flag (name t) ≡ true → number_in t ≡ 0
 
 -- the ledger's copy without covariance, in its own edition; or the ledger's refusal
 unfoldable pub redacted : List ℕ → Parse (List ℕ)

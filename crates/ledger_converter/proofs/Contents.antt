@@ -25,7 +25,7 @@ use Rattle.format.proofs.FineTables.{fine_beamhopping}
 use Rattle.format.proofs.EntryLaws.{counted_good}
 use Rattle.format.proofs.Demand.{passed}
 use Rattle.format.proofs.ConvertLaws.{other_form, fields_converted, other_content}
-use Rattle.runs.specs.Appended.{Appended}
+use Rattle.runs.specs.Appended.{AppendedAt}
 use Rattle.ledger_reader.specs.Measured.{ReadAs}
 use Rattle.ledger_converter.specs.Steps.{PlansThere, PlansIn, Plans, ContentIn, Content}
 
@@ -129,7 +129,7 @@ module _ {from : Edition} {id : ℕ} {l : List ℕ} (b : Below 256 l) (w : ReadA
 
   -- ---- other ids
 
-  pub same_in : {ed : Edition} {out out' : List ℕ} {n : ℕ} → (id ≡ 3 → ⊥) → Appended (drop 4 l) 4 out out' n
+  pub same_in : {ed : Edition} {out out' : List ℕ} {n : ℕ} → (id ≡ 3 → ⊥) → AppendedAt (drop 4 l) 4 out out' n
       → Content ed l out out' (Ok n)
   same_in {ed} h a =
       let t : Table = w.table in

@@ -23,7 +23,7 @@ use Rattle.format.specs.Convert.{exact, all_exact, lossless}
 use Rattle.format.proofs.DigitLaws.{length_digits}
 use Rattle.format.proofs.ParseLaws.{push_got, then_got}
 use Rattle.ledger_converter.specs.declared.Plan.{Plan}
-use Rattle.runs.specs.Appended.{Appended}
+use Rattle.runs.specs.Appended.{AppendedAt}
 use Rattle.ledger_converter.specs.Plans.{bytes_in, has_all, PlanThere, PartsOf, PlanAt}
 use Rattle.ledger_converter.specs.Steps.{PlansThere, Plans}
 use Rattle.runs.proofs.Appends.{nothing_yet, also, named}
@@ -115,7 +115,7 @@ pub record Walking (from ed : Edition) (l out₀ : List ℕ) (start count i plac
   pub there : Left from l (count - i) place left
   pub tested : (p : Parse (List ℕ)) → lossless ed es p ≡ from_index ed i left p
   pub bytes : ledgers ed es ≡ laid ++ ledgers ed left
-  pub appended : Appended laid start out₀ out at
+  pub appended : AppendedAt laid start out₀ out at
   pub small : at ≤ place + 4 * i
   pub within : place ≤ length l
 
@@ -160,7 +160,7 @@ module _ {from ed : Edition} {l out₀ out : List ℕ} {start count i place at :
     pub few : length l ≤ 65537 → length p.head.now + (length p.fields.bytes.now + length p.filler.now) ≤ 65537
     few s = omega (arith, parts.size, parts.within)
 
-    pub turn : {out' : List ℕ} {at' : ℕ} → has_all ed p ≡ true → Appended (bytes_in ed p) at out out' at'
+    pub turn : {out' : List ℕ} {at' : ℕ} → has_all ed p ≡ true → AppendedAt (bytes_in ed p) at out out' at'
         → Walking from ed l out₀ start count (i + 1) p.next at' out'
     unfolding ledgers
     turn {out'} {at'} t x =
@@ -197,7 +197,7 @@ module _ {from ed : Edition} {l out₀ out : List ℕ} {start count i place at :
   small_place s h c = omega (arith, w.small, w.within)
 
   pub ends : {before : List ℕ} → count ≡ value 256 (take 2 (drop 4 l))
-      → Appended (take 2 (drop 4 l)) 4 before out₀ start → count ≤ i
+      → AppendedAt (take 2 (drop 4 l)) 4 before out₀ start → count ≤ i
       → Plans from ed l before out (Ok at)
   unfolding ledgers
   ends k a h =

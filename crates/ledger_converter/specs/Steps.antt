@@ -8,7 +8,7 @@ use Rattle.format.specs.declared.Refusal.{Refusal}
 use Rattle.format.specs.Tables.{beamhopping}
 use Rattle.format.specs.Whole.{Table, ledgers, counted, version, id_of, edition_of, ledger_read}
 use Rattle.format.specs.Convert.{lossless, converted}
-use Rattle.runs.specs.Appended.{Appended, LedgerLaid}
+use Rattle.runs.specs.Appended.{AppendedAt, LedgerLaid}
 
 -- plans behind their count, all of a ledger
 pub record PlansThere (ed : Edition) (l : List ℕ) : Type 0 where
@@ -20,7 +20,7 @@ pub record PlansThere (ed : Edition) (l : List ℕ) : Type 0 where
 -- they are laid behind their count in the edition that is wanted, or refused since that lacks something
 abbrev pub PlansIn : Edition → List (List Field) → List ℕ → List ℕ → List ℕ → Result ℕ Refusal → Type 0
 PlansIn ed es l out out' (Ok n) =
-    ((p : Parse (List ℕ)) → lossless ed es p ≡ p) × Appended (take 2 (drop 4 l) ++ ledgers ed es) 4 out out' n
+    ((p : Parse (List ℕ)) → lossless ed es p ≡ p) × AppendedAt (take 2 (drop 4 l) ++ ledgers ed es) 4 out out' n
 PlansIn ed es l out out' (Err f) = (p : Parse (List ℕ)) → lossless ed es p ≡ refused f.fault f.need f.have
 
 pub record Plans (from ed : Edition) (l out out' : List ℕ) (r : Result ℕ Refusal) : Type 0 where

@@ -6,7 +6,7 @@
 ghost use Rattle.std.specs.Prelude.{◌≡◌, ◌+◌, ◌≤◌, length};
 ghost use Rattle.format.specs.declared.Edition.TheVariants.{First, Second};
 ghost use Rattle.format.specs.Convert.{converted, convert_answer, convert_left};
-ghost use Rattle.runs.specs.Appended.{Appended};
+ghost use Rattle.runs.specs.Appended.{AppendedAt};
 ghost use Rattle.ledger_reader.specs.Measured.{ReadAs, Makes};
 ghost use Rattle.ledger_converter.specs.Measure.{convert_measure};
 ghost use Rattle.ledger_converter.specs.Plans.{bytes_in, has_all, FieldsAt, PlanThere, PlanAt};
@@ -122,7 +122,7 @@ fn has_all(edition: Edition, plan: Plan) -> bool
 fn append_plan(edition: Edition, plan: Plan, out: &mut [u8], at: usize) -> usize
     requires at_bound { at ≤ 600000 }
     requires few { length plan.head.now + (length plan.fields.bytes.now + length plan.filler.now) ≤ 65537 }
-    ensures { Appended (bytes_in edition plan.entry) at out.old out.new result }
+    ensures { AppendedAt (bytes_in edition plan.entry) at out.old out.new result }
 {
     let behind = append(plan.head, out, at);
     match edition {

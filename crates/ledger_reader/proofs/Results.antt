@@ -20,7 +20,7 @@ use Rattle.format.proofs.DigitLaws.{length_digits}
 use Rattle.format.proofs.CallLaws.{answer_done, answer_refused}
 use Rattle.format.proofs.ParseLaws.{got_not_refused}
 use Rattle.format.proofs.ConvertLaws.{read_framed}
-use Rattle.runs.specs.Appended.{Appended, LedgerLaid}
+use Rattle.runs.specs.Appended.{AppendedAt, LedgerLaid}
 use Rattle.runs.proofs.Appends.{also, named}
 use Rattle.ledger_reader.specs.declared.Measured.{Measured}
 use Rattle.ledger_reader.specs.Measured.{measured, measure_of, ReadAs, Makes}
@@ -143,7 +143,7 @@ module _ {m o : Output} (id : ℕ) (out : List ℕ) (p : Parse (List ℕ)) (e : 
 
   -- the front is laid, and the content behind it
   pub stored : {ed : Edition} {out₁ out₂ out₃ : List ℕ} {i j n v k : ℕ}
-      → Appended (digits 256 2 (o.length - 2)) 0 out out₁ i → Appended (v ∷ k ∷ []) i out₁ out₂ j
+      → AppendedAt (digits 256 2 (o.length - 2)) 0 out out₁ i → AppendedAt (v ∷ k ∷ []) i out₁ out₂ j
       → LedgerLaid ed id p out₂ out₃ n → v ≡ version ed → k ≡ id
       → (Ok o ≡ answer id (length out) p) × (out₃ ≡ left out p)
   unfolding left
@@ -161,7 +161,7 @@ module _ {m o : Output} (id : ℕ) (out : List ℕ) (p : Parse (List ℕ)) (e : 
       ) in
       let u : o.length - 2 ≡ length c + 2 = omega arith in
       let four : 4 ≡ j = omega (arith, x.size, y.size, length_digits 256 2 (o.length - 2)) in
-      let content : Appended c j out₂ out₃ n = subst (λ (a : ℕ). Appended c a out₂ out₃ n) four z.appended in
+      let content : AppendedAt c j out₂ out₃ n = subst (λ (a : ℕ). AppendedAt c a out₂ out₃ n) four z.appended in
       let same : digits 256 2 (o.length - 2)
       ++ ((v ∷ k ∷ []) ++ c) ≡ r.xs = ap (λ (b : ℕ). digits 256 2 b ++ ((v ∷ k ∷ []) ++ c)) u
       ∙ ap₂ (λ (a b : ℕ). d ++ (a ∷ b ∷ c)) ev ek ∙ sym s in

@@ -14,7 +14,7 @@ use Rattle.format.specs.Calls.{Fitted}
 use Rattle.format.specs.Redact.{redact, satellites, redacted}
 use Rattle.format.proofs.Demand.{read_accepted}
 use Rattle.format.proofs.RedactLaws.{copy_is, unaltered}
-use Rattle.runs.specs.Appended.{Appended, LedgerLaid}
+use Rattle.runs.specs.Appended.{AppendedAt, LedgerLaid}
 use Rattle.runs.proofs.Appends.{named}
 use Rattle.ledger_reader.specs.Measured.{measured, ReadAs}
 use Rattle.ledger_reader.proofs.Results as results
@@ -25,7 +25,7 @@ in_its_own {id = id} {l} w = subst (λ (ed : Edition). ReadAs ed id l) w.edition
 
 -- under another id the content is laid as it is
 pub whole_copy : {id : ℕ} {l out out' : List ℕ} {n : ℕ} → Below 256 l → ReadAs (edition_of l) id l → (id ≡ 4 → ⊥)
-    → Appended (drop 4 l) 4 out out' n → LedgerLaid (edition_of l) (id_of l) (redacted l) out out' n
+    → AppendedAt (drop 4 l) 4 out out' n → LedgerLaid (edition_of l) (id_of l) (redacted l) out out' n
 unfolding ledger_of digits
 whole_copy {id} {l} b w h a =
     let t = w.table in

@@ -7,16 +7,16 @@ use native.Mathlib.Omega.{arith}
 use lib.ListN.{length, take, drop}
 use Rattle.format.specs.Digits.{value}
 use Rattle.runs.specs.declared.Flags.{Flags}
-use Rattle.runs.specs.Appended.{Appended}
+use Rattle.runs.specs.Appended.{AppendedAt}
 use Rattle.runs.proofs.Appends.{also, named}
 use Rattle.ledger_redactor.specs.Places.{flags_at, metadata_size, entry_size, covariance_size, count_at, covariance_at, behind_at, copy_to}
 
 module _ (l : List ℕ) (at : ℕ) where
   -- a satellite's copy in three pieces
   pub in_pieces : {out out₁ out₂ out₃ : List ℕ} {p q r n : ℕ} (end : ℕ)
-      → Appended (take (at + 9 - at) (drop at l)) p out out₁ q
-      → Appended (0 ∷ []) q out₁ out₂ r → Appended (take (end - (at + 10)) (drop (at + 10) l)) r out₂ out₃ n
-      → Appended (copy_to l at end) p out out₃ n
+      → AppendedAt (take (at + 9 - at) (drop at l)) p out out₁ q
+      → AppendedAt (0 ∷ []) q out₁ out₂ r → AppendedAt (take (end - (at + 10)) (drop (at + 10) l)) r out₂ out₃ n
+      → AppendedAt (copy_to l at end) p out out₃ n
   unfolding copy_to
   in_pieces end x y z =
       let e : at + 9 - at ≡ 9 = omega arith in

@@ -11,6 +11,7 @@ use Rattle.format.specs.Digits.{digits, value}
 use Rattle.format.proofs.DigitLaws.{length_digits, value_digits}
 use Rattle.runs.specs.declared.Flags.{Flags}
 use Rattle.ledger_redactor.specs.Places.{flags_at, metadata_size, entry_size, covariance_size, count_at, covariance_at, behind_at, copy_to}
+use Rattle.ledger_redactor.proofs.Parts.{flags_of}
 use Rattle.ledger_redactor.proofs.Satellites.{Satellite}
 
 -- a byte behind a front of k bytes
@@ -39,15 +40,8 @@ module _ (l : List ℕ) (at : ℕ) (bs keeps more : List ℕ) (e : drop at l ≡
   abbrev flag_bytes : List ℕ
   flag_bytes = x.meta ∷ x.start ∷ x.stop ∷ x.accel ∷ x.cov ∷ []
 
-  flagged : Flags
-  flagged =
-      record {
-        metadata = eqb x.meta 1;
-        start = eqb x.start 1;
-        stop = eqb x.stop 1;
-        acceleration = eqb x.accel 1;
-        covariance = eqb x.cov 1;
-      }
+  abbrev its_flags : Flags
+  its_flags = flags_of x.meta x.start x.stop x.accel x.cov
 
   in_front : drop at l ≡ x.front ++ (flag_bytes ++ (tail ++ more))
   in_front = e ∙ ap (λ (y : List ℕ). y ++ more) x.is ∙ append_assoc x.front (flag_bytes ++ tail) more
@@ -55,8 +49,7 @@ module _ (l : List ℕ) (at : ℕ) (bs keeps more : List ℕ) (e : drop at l ≡
   flag : (j : ℕ) → get_or l (at + (5 + j)) 0 ≡ get_or (flag_bytes ++ (tail ++ more)) j 0
   flag j = at_front l x.front (flag_bytes ++ (tail ++ more)) at 5 j in_front x.five
 
-  flags_are : flags_at l at ≡ flagged
-  unfolding flagged
+  flags_are : flags_at l at ≡ its_flags
   flags_are = rw (flag 0, flag 1, flag 2, flag 3, flag 4) refl
 
   -- the flags, and what stands behind them
@@ -75,7 +68,7 @@ module _ (l : List ℕ) (at : ℕ) (bs keeps more : List ℕ) (e : drop at l ≡
   behind_ten = behind_front l ten_bytes (tail ++ more) at 10 in_ten ten_long
 
   count_is : count_at l at ≡ at + 10 + length x.about
-  unfolding count_at flagged
+  unfolding count_at
   count_is = ap (λ (f : Flags). at + 10 + metadata_size f) flags_are ∙ ap (λ (k : ℕ). at + 10 + k) (sym x.about_size)
 
   -- the count is read there
@@ -112,14 +105,14 @@ module _ (l : List ℕ) (at : ℕ) (bs keeps more : List ℕ) (e : drop at l ≡
       )
 
   starts : covariance_at l at ≡ at + length keeps
-  unfolding covariance_at flagged
+  unfolding covariance_at
   starts =
       let w : value 256 (take 2 (drop (count_at l at) l)) * entry_size (flags_at l at).acceleration ≡ length x.each =
       ap₂ (λ (n : ℕ) (f : Flags). n * entry_size f.acceleration) counted flags_are ∙ sym x.each_size in
       omega (arith, w, count_is, kept_long)
 
   ends : behind_at l at ≡ at + length bs
-  unfolding behind_at flagged
+  unfolding behind_at
   ends =
       let w : covariance_size (flags_at l at).covariance ≡ length x.part = ap (λ
       (f : Flags). covariance_size f.covariance) flags_are ∙ sym x.part_size in

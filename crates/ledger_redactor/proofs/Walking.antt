@@ -22,7 +22,7 @@ use Rattle.format.proofs.EntryLaws.{AllGood, count_le}
 use Rattle.format.proofs.TableLaws.{GoodTable, good_list}
 use Rattle.format.proofs.Demand.{fine_then, accepted_good, read_accepted}
 use Rattle.format.proofs.RedactLaws.{copy_is}
-use Rattle.runs.specs.Appended.{Appended, LedgerLaid}
+use Rattle.runs.specs.Appended.{AppendedAt, LedgerLaid}
 use Rattle.runs.proofs.Appends.{nothing_yet, also, named}
 use Rattle.ledger_reader.specs.Measured.{ReadAs}
 use Rattle.ledger_redactor.specs.Places.{covariance_at, behind_at, copy_to}
@@ -137,7 +137,7 @@ pub record Walking (l out₀ : List ℕ) (start i place at : ℕ) (out : List �
   pub there : drop place l ≡ ledgers (edition_of l) left
   pub many : i + length left ≡ length w.es
   pub bytes : ledgers (edition_of l) (map redact w.es) ≡ laid ++ ledgers (edition_of l) (map redact left)
-  pub appended : Appended laid start out₀ out at
+  pub appended : AppendedAt laid start out₀ out at
   pub small : at ≤ place
   pub within : place ≤ length l
 
@@ -194,7 +194,7 @@ module _ {l out₀ out : List ℕ} {start i place at : ℕ} (v : Walking l out�
       (omega (arith, s.start, s.behind, s.shorter), omega (arith, s.start, s.ten), omega (arith, s.behind, s.within))
 
   pub turn : {out' : List ℕ} {end behind at' : ℕ} → end ≡ covariance_at l place → behind ≡ behind_at l place
-      → Appended (copy_to l place end) at out out' at' → Walking l out₀ start (i + 1) behind at' out'
+      → AppendedAt (copy_to l place end) at out out' at' → Walking l out₀ start (i + 1) behind at' out'
   unfolding ledgers
   turn {out'} {end} {behind} {at'} p q x =
       let ed : Edition = edition_of l in
@@ -202,7 +202,7 @@ module _ {l out₀ out : List ℕ} {start i place at : ℕ} (v : Walking l out�
       let s = n.stands in
       let c : List ℕ = ledger ed (redact n.ts) in
       let copy : copy_to l place end ≡ c = ap (copy_to l place) (p ∙ s.start) ∙ s.copy in
-      let y : Appended c at out out' at' = named copy x in
+      let y : AppendedAt c at out out' at' = named copy x in
       let e : behind ≡ place + length (ledger ed n.ts) = q ∙ s.behind in
       record {
         w = v.w;
@@ -222,7 +222,7 @@ module _ {l out₀ out : List ℕ} {start i place at : ℕ} (v : Walking l out�
 
 -- all are laid
 pub ends : {l before out₀ out : List ℕ} {start i place at : ℕ} → Walking l out₀ start i place at out
-    → Appended (take 12 (drop 4 l)) 4 before out₀ start → value 256 (take 2 (drop 14 l)) ≤ i
+    → AppendedAt (take 12 (drop 4 l)) 4 before out₀ start → value 256 (take 2 (drop 14 l)) ≤ i
     → LedgerLaid (edition_of l) (id_of l) (redacted l) before out at
 unfolding ledgers
 ends {l} v a h =

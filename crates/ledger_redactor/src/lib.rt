@@ -7,7 +7,7 @@
 ghost use Rattle.std.specs.Prelude.{◌≡◌, ◌+◌, ◌*◌, ◌-◌, ◌≤◌, ◌<◌, length};
 ghost use Rattle.format.specs.Whole.{id_of, edition_of};
 ghost use Rattle.format.specs.Redact.{redacted, redact_answer, redact_left};
-ghost use Rattle.runs.specs.Appended.{Appended, LedgerLaid};
+ghost use Rattle.runs.specs.Appended.{AppendedAt, LedgerLaid};
 ghost use Rattle.ledger_reader.specs.Measured.{ReadAs, Makes};
 ghost use Rattle.ledger_redactor.specs.Measure.{redact_measure};
 ghost use Rattle.ledger_redactor.specs.Places.{flags_at, usable_size, metadata_size, entry_size, covariance_size, covariance_at, behind_at, copy_to};
@@ -16,6 +16,12 @@ use bits::get_be;
 use format::{Output, Refusal, fitted};
 use ledger_reader::{Measured, measure};
 use runs::{Flags, append, append_pair};
+
+// The place of the count of satellites in a ledger of id 4, behind the front and the header.
+const COUNT: usize = 14;
+
+// The place of the first satellite.
+const FIRST: usize = 16;
 
 // Where a satellite's covariance stands in a ledger, from its first byte up to the satellite's end: nothing where the
 // flag is not set.
@@ -100,7 +106,7 @@ fn append_satellite(ledger: &[u8], place: usize, end: usize, out: &mut [u8], at:
     requires within { (place + 10 ≤ end) × (end ≤ length ledger.now) }
     requires short { length ledger.now ≤ 65537 }
     requires at_bound { at ≤ 600000 }
-    ensures { Appended (copy_to ledger.now place end) at out.old out.new result }
+    ensures { AppendedAt (copy_to ledger.now place end) at out.old out.new result }
 {
     let flag = append(&ledger[place..place + 9], out, at);
     let rest = append(&[0], out, flag);
@@ -113,9 +119,9 @@ fn redact_satellites(ledger: &[u8], out: &mut [u8]) -> usize
     requires { ReadAs (edition_of ledger.now) 4 ledger.now }
     ensures { LedgerLaid (edition_of ledger.now) (id_of ledger.now) (redacted ledger.now) out.old out.new result }
 {
-    let count = get_be(ledger, 14, 2);
-    let mut at = append(&ledger[4..16], out, 4);
-    let mut place = 16;
+    let count = get_be(ledger, COUNT, 2);
+    let mut at = append(&ledger[4..FIRST], out, 4);
+    let mut place = FIRST;
     for _ in 0..count {
         let covariance = covariance_of(ledger, place);
         at = append_satellite(ledger, place, covariance.start, out, at);

@@ -11,12 +11,12 @@ use Rattle.format.proofs.DigitLaws.{length_digits}
 use Rattle.bits.proofs.Splices.{length_splice, splice_nil, splice_splice, part_splice}
 use Rattle.runs.specs.Stored.{stored}
 use Rattle.runs.proofs.Stores.{stored_fits, stored_length}
-use Rattle.runs.specs.Appended.{Appended}
+use Rattle.runs.specs.Appended.{AppendedAt}
 
 -- bytes copied to the start of a part that was lent from their place on, or from the buffer's end where that is past it
 pub append_part : (out xs part : List ℕ) (at start : ℕ) → start ≤ length out → (at ≤ length out → start ≡ at)
     → part ≡ stored (mid_of start (length out - start) out) 0 xs
-    → Appended xs at out (put_mid start (length out - start) out part) (at + length xs)
+    → AppendedAt xs at out (put_mid start (length out - start) out part) (at + length xs)
 append_part out xs part at start h e q =
     let mid : List ℕ = mid_of start (length out - start) out in
     let n : length mid ≡ length out - start = mid_len start (length out) out (omega arith) in
@@ -31,7 +31,7 @@ append_part out xs part at start h e q =
 
 -- a number's two bytes, where there is room for them, and where there is not
 pub pair_fits : (v at : ℕ) (out out' : List ℕ) → at + 2 ≤ length out → out' ≡ splice out at (digits 256 2 v)
-    → Appended (digits 256 2 v) at out out' (at + 2)
+    → AppendedAt (digits 256 2 v) at out out' (at + 2)
 pair_fits v at out out' h q =
     let n : length (digits 256 2 v) ≡ 2 = length_digits 256 2 v in
     record {
@@ -40,18 +40,18 @@ pair_fits v at out out' h q =
       long = ap length q ∙ length_splice out at (digits 256 2 v) (omega arith);
     }
 
-pub pair_short : (v at : ℕ) (out : List ℕ) → length out < at + 2 → Appended (digits 256 2 v) at out out (at + 2)
+pub pair_short : (v at : ℕ) (out : List ℕ) → length out < at + 2 → AppendedAt (digits 256 2 v) at out out (at + 2)
 pair_short v at out h =
     let n : length (digits 256 2 v) ≡ 2 = length_digits 256 2 v in
     record { size = omega arith; bytes = λ r. absurd (omega arith); long = refl }
 
 -- nothing
-pub nothing_yet : {out : List ℕ} {at : ℕ} → Appended [] at out out at
+pub nothing_yet : {out : List ℕ} {at : ℕ} → AppendedAt [] at out out at
 nothing_yet {out} {at} = record { size = omega arith; bytes = λ _. sym (splice_nil out at); long = refl }
 
 -- two pieces, one behind the other
-pub also : {xs ys out out₁ out₂ : List ℕ} {at m n : ℕ} → Appended xs at out out₁ m → Appended ys m out₁ out₂ n
-    → Appended (xs ++ ys) at out out₂ n
+pub also : {xs ys out out₁ out₂ : List ℕ} {at m n : ℕ} → AppendedAt xs at out out₁ m → AppendedAt ys m out₁ out₂ n
+    → AppendedAt (xs ++ ys) at out out₂ n
 also {xs} {ys} {out} {out₁} {out₂} {at} {m} {n} x y =
     let k : length (xs ++ ys) ≡ length xs + length ys = length-append xs ys in
     let zx = x.size in
@@ -65,5 +65,5 @@ also {xs} {ys} {out} {out₁} {out₂} {at} {m} {n} x y =
     }
 
 -- the same bytes by another name
-pub named : {xs ys out out' : List ℕ} {at n : ℕ} → xs ≡ ys → Appended xs at out out' n → Appended ys at out out' n
-named {out = out} {out'} {at} {n} e x = subst (λ (z : List ℕ). Appended z at out out' n) e x
+pub named : {xs ys out out' : List ℕ} {at n : ℕ} → xs ≡ ys → AppendedAt xs at out out' n → AppendedAt ys at out out' n
+named {out = out} {out'} {at} {n} e x = subst (λ (z : List ℕ). AppendedAt z at out out' n) e x

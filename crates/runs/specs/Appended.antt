@@ -7,7 +7,7 @@ use Rattle.format.specs.declared.Edition.{Edition}
 use Rattle.format.specs.Whole.{version}
 
 -- xs stand in a buffer from a place on, if it has room for them, and `behind` is the place behind them
-pub record Appended (xs : List ℕ) (at : ℕ) (out out' : List ℕ) (behind : ℕ) : Type 0 where
+pub record AppendedAt (xs : List ℕ) (at : ℕ) (out out' : List ℕ) (behind : ℕ) : Type 0 where
   pub size : behind ≡ at + length xs
   pub bytes : at + length xs ≤ length out → out' ≡ splice out at xs
   pub long : length out' ≡ length out
@@ -16,4 +16,4 @@ pub record Appended (xs : List ℕ) (at : ℕ) (out out' : List ℕ) (behind : �
 pub record LedgerLaid (ed : Edition) (id : ℕ) (p : Parse (List ℕ)) (out out' : List ℕ) (behind : ℕ) : Type 0 where
   pub content : List ℕ
   pub is : p ≡ got (digits 256 2 (length content + 2) ++ (version ed ∷ id ∷ content)) []
-  pub appended : Appended content 4 out out' behind
+  pub appended : AppendedAt content 4 out out' behind

@@ -6,7 +6,7 @@ ghost use Rattle.std.specs.Prelude.{◌≡◌, ◌+◌, ◌%◌, ◌^◌, ◌<�
 ghost use Rattle.format.specs.Digits.{digits};
 ghost use Rattle.runs.specs.Lines.{width_of, size_of, size_for, shown_of, mark_ok};
 ghost use Rattle.runs.specs.Stored.{stored};
-ghost use Rattle.runs.specs.Appended.{Appended};
+ghost use Rattle.runs.specs.Appended.{AppendedAt};
 
 use bits::put_be;
 use marks::EXT;
@@ -109,7 +109,7 @@ pub fn copy_bytes(bytes: &[u8], out: &mut [u8])
 // Stores bytes at a place where there is room for all of them; the place behind them.
 pub fn append(bytes: &[u8], out: &mut [u8], at: usize) -> usize
     requires { (at ≤ 1000000) × (length bytes.now ≤ 65537) }
-    ensures { Appended bytes.now at out.old out.new result }
+    ensures { AppendedAt bytes.now at out.old out.new result }
 {
     let start = at.min(out.len());
     copy_bytes(bytes, &mut out[start..]);
@@ -119,7 +119,7 @@ pub fn append(bytes: &[u8], out: &mut [u8], at: usize) -> usize
 // Stores a number in two bytes at a place where there is room for them; the place behind them.
 pub fn append_pair(v: u64, out: &mut [u8], at: usize) -> usize
     requires { at ≤ 1000000 }
-    ensures appended { Appended (digits 256 2 v) at out.old out.new result }
+    ensures appended { AppendedAt (digits 256 2 v) at out.old out.new result }
     ensures two { result ≡ at + 2 }
 {
     let behind = at + 2;
