@@ -33,9 +33,9 @@
  * Lengths of `out` and of results are in its units: bytes, and for sat_entry_ids ids of 32 bits.
  *
  * Buffers that always suffice: 6 + 2 * body_len bytes for a ledger in either edition, so never more than
- * SAT_LEDGER_MAX, which also holds every moved ledger and every copy without covariance; for the latter ledger_len bytes
- * do; for a plain or kept body body_len bytes, or SAT_BODY_MAX where it comes from a ledger; body_len / 4 ids, so never
- * more than SAT_ENTRY_IDS_MAX. The sat_plain_body and sat_kept_body calls take some 10,000 bytes of stack, the
+ * SAT_LEDGER_MAX, which also holds every moved ledger and every copy without covariance; for the latter ledger_len
+ * bytes do; for a plain or kept body body_len bytes, or SAT_BODY_MAX where it comes from a ledger; body_len / 4 ids, so
+ * never more than SAT_ENTRY_IDS_MAX. The sat_plain_body and sat_kept_body calls take some 10,000 bytes of stack, the
  * sat_entry_ids calls 5,000, the others 2,000.
  *
  * Pointers: (NULL, 0) is nothing, an empty body, an empty ledger or no buffer, and is answered as any other pointer
