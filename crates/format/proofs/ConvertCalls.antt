@@ -1,12 +1,10 @@
 -- What the converter's calls return and leave in their buffer.
 -- Assumes nothing.
 use mathlib.Core.Path.{◌≡◌, refl, sym, ap, ◌∙◌}
-use mathlib.Core.Bool.{Bool, true, false, cond}
 use mathlib.Core.Logic.{◌↔◌, ◌⊎◌, inl, inr}
 use mathlib.Core.List.{List, [], ◌∷◌}
 use Prim.Native.Nat.{ℕ, suc, ◌+◌, ◌*◌, ◌<◌, ◌≤◌}
 use native.Mathlib.Omega.{arith}
-use lib.Dec.{leb}
 use lib.ListN.{length}
 use borrow.Author.Tests.{le-leb}
 use Rattle.std.specs.Prelude.{Err}
@@ -18,7 +16,7 @@ use Rattle.format.specs.declared.Fault.TheVariants.{BufferTooShort, PlanInexact}
 use Rattle.format.specs.declared.Edition.{Edition}
 use Rattle.format.specs.declared.Edition.TheVariants.{First, Second}
 use Rattle.format.specs.Whole.{Table, entries_of, Accepted, AcceptedBefore, body_of, kept_of, ledger_of, id_of, edition_of, ledger_read}
-use Rattle.format.specs.Calls.{done, number_of, answer, Enough, relaid, restored, Wrote, Gave}
+use Rattle.format.specs.Calls.{number_of, answer, Enough, relaid, restored, Wrote, Gave}
 use Rattle.format.specs.Convert.{exact, all_exact, lossless, converted, convert_answer, convert_left, Moved}
 use Rattle.format.proofs.ParseLaws.{cond_got, then_got}
 use Rattle.format.proofs.TableLaws.{fine_layout, form_of}

@@ -1,12 +1,10 @@
 -- S-31: what the copier's calls return and leave in their buffer.
 -- Assumes nothing.
 use mathlib.Core.Path.{◌≡◌, refl, sym, ap, ap₂, ◌∙◌}
-use mathlib.Core.Bool.{Bool, true, false, cond}
 use mathlib.Core.Logic.{◌↔◌, ◌⊎◌, inl, inr}
 use mathlib.Core.List.{List, []}
 use Prim.Native.Nat.{ℕ, ◌+◌, ◌*◌, ◌≤◌}
 use native.Mathlib.Omega.{arith}
-use lib.Dec.{leb}
 use lib.ListN.{length}
 use borrow.Author.Tests.{le-leb}
 use Rattle.std.specs.Prelude.{All, Err}
@@ -17,7 +15,7 @@ use Rattle.format.specs.declared.Refusal.{Refusal}
 use Rattle.format.specs.declared.Fault.TheVariants.{BufferTooShort}
 use Rattle.format.specs.declared.Edition.{Edition}
 use Rattle.format.specs.Whole.{Table, entries_of, Accepted, AcceptedBefore, body_of, ledger_of, id_of, edition_of, ledger_read}
-use Rattle.format.specs.Calls.{done, number_of, answer, left, Enough, restored, Gave}
+use Rattle.format.specs.Calls.{number_of, answer, left, Enough, restored, Gave}
 use Rattle.format.specs.Redact.{Clean, redact, satellites, redacted, redact_answer, redact_left, Copied, SameOthers}
 use Rattle.format.proofs.ParseLaws.{got_not_refused, then_got}
 use Rattle.format.proofs.Demand.{IsLedger, fine_then, accepted_good, ledger_all, ledger_length, read_accepted}

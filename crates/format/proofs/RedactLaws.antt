@@ -17,7 +17,7 @@ use Rattle.format.specs.Whole.{layout, layout_before, Table, entries_of, Accepte
 use Rattle.format.specs.Redact.{Clean, redact, others, each, satellites, redacted, SameOthers}
 use Rattle.format.proofs.ParseLaws.{then_got}
 use Rattle.format.proofs.TableLaws.{fine_layout, GoodTable, form_of}
-use Rattle.format.proofs.Demand.{IsLedger, fine_then, accepted_good, accepted_before, body_again, ledger_all, ledger_again, read_accepted, id_of_lem, edition_of_lem}
+use Rattle.format.proofs.Demand.{IsLedger, accepted_before, body_again, ledger_all, ledger_again, read_accepted, id_of_lem, edition_of_lem}
 use Rattle.format.proofs.ConvertLaws.{inj, read_body_accepted, good, own_form}
 use Rattle.format.proofs.RedactTables.{each_clean, under, under_now, under_form, under_size, under_again, under_others, under_same}
 

@@ -10,7 +10,7 @@ use lib.Dec.{eqb}
 use Rattle.format.specs.Syntax.{Name, Sign, unsigned, Syntax, end, field, when, need, at_most, slots, plan, raw, before, Field, num, flags, bytes}
 use Rattle.format.specs.Tables.{u, times, usable, metadata, motion, acceleration, ephemeris, covariance, ephemerides, position3}
 use Rattle.format.specs.declared.Fault.TheVariants.{UsableStartCut, UsableStopCut}
-use Rattle.format.specs.ByName.{name, number_in}
+use Rattle.format.specs.ByName.{name}
 use Rattle.format.specs.Redact.{Clean, is_flag, is_part, redact, others}
 use Rattle.format.proofs.Good.{Good, g_end, g_field, g_yes, g_no, g_need, g_most, g_slots, g_plan, g_raw}
 use Rattle.format.proofs.RedactFields.{Ordinary, redact_by, others_by}

@@ -1,12 +1,12 @@
 -- A ledger's content gone through, and laid in another edition. Nothing public rests on these.
 -- Assumes nothing: these are definitions.
-use Rattle.std.specs.Prelude.{ℕ, ◌+◌, ◌≤◌, ◌≡◌, List, [], ◌∷◌, ◌++◌, length, take, drop, Result, Ok, Err}
-use Rattle.format.specs.Digits.{digits, value}
+use Rattle.std.specs.Prelude.{ℕ, ◌≤◌, ◌≡◌, List, [], ◌++◌, length, take, drop, Result, Ok, Err}
+use Rattle.format.specs.Digits.{value}
 use Rattle.format.specs.Syntax.{Field, Parse, got, refused}
 use Rattle.format.specs.declared.Edition.{Edition}
 use Rattle.format.specs.declared.Refusal.{Refusal}
 use Rattle.format.specs.Tables.{beamhopping}
-use Rattle.format.specs.Whole.{Table, ledgers, counted, version, id_of, edition_of, ledger_read}
+use Rattle.format.specs.Whole.{ledgers, counted, id_of}
 use Rattle.format.specs.Convert.{lossless, converted}
 use Rattle.runs.specs.Appended.{AppendedAt, LedgerLaid}
 
