@@ -18,7 +18,7 @@ is_part nm =
     eqt nm "covariance_epoch_year" || (eqt nm "covariance_epoch_reserved_zero_future_use"
     || (eqt nm "covariance_epoch_day" || (eqt nm "covariance_epoch_day_fraction" || eqt nm "covariance_elements")))
 
--- a field with the number 0
+-- a field whose number is 0 now; one that is no number stays
 abbrev pub zeroed : Field → Field
 zeroed (num g nm w v) = num g nm w 0
 zeroed (flags nm bs) = flags nm bs

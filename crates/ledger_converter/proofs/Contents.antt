@@ -26,7 +26,7 @@ use Rattle.format.proofs.EntryLaws.{counted_good}
 use Rattle.format.proofs.Demand.{passed}
 use Rattle.format.proofs.ConvertLaws.{other_form, fields_converted, other_content}
 use Rattle.runs.specs.Appended.{AppendedAt}
-use Rattle.ledger_reader.specs.Measured.{ReadAs}
+use Rattle.ledger_reader.specs.Makes.{ReadAs}
 use Rattle.ledger_converter.specs.Steps.{PlansThere, PlansIn, Plans, ContentIn, Content}
 
 -- ---- a ledger's plans

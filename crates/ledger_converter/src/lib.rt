@@ -7,7 +7,7 @@ ghost use Rattle.std.specs.Prelude.{◌≡◌, ◌+◌, ◌≤◌, length};
 ghost use Rattle.format.specs.declared.Edition.TheVariants.{First, Second};
 ghost use Rattle.format.specs.Convert.{converted, convert_answer, convert_left};
 ghost use Rattle.runs.specs.Appended.{AppendedAt};
-ghost use Rattle.ledger_reader.specs.Measured.{ReadAs, Makes};
+ghost use Rattle.ledger_reader.specs.Makes.{ReadAs, Makes};
 ghost use Rattle.ledger_converter.specs.Measure.{convert_measure};
 ghost use Rattle.ledger_converter.specs.Plans.{bytes_in, has_all, FieldsAt, PlanThere, PlanAt};
 ghost use Rattle.ledger_converter.specs.Steps.{PlansThere, Plans, Content};

@@ -23,7 +23,8 @@ use Rattle.format.proofs.ConvertLaws.{read_framed}
 use Rattle.runs.specs.Appended.{AppendedAt, LedgerLaid}
 use Rattle.runs.proofs.Appends.{also, named}
 use Rattle.ledger_reader.specs.declared.Measured.{Measured}
-use Rattle.ledger_reader.specs.Measured.{measured, measure_of, ReadAs, Makes}
+use Rattle.ledger_reader.specs.Measured.{measured, measure_of}
+use Rattle.ledger_reader.specs.Makes.{ReadAs, Makes}
 use Rattle.ledger_reader.proofs.Reading.{has_size}
 
 -- a ledger that has a measure is read

@@ -16,7 +16,8 @@ use Rattle.format.proofs.Demand.{read_accepted}
 use Rattle.format.proofs.RedactLaws.{copy_is, unaltered}
 use Rattle.runs.specs.Appended.{AppendedAt, LedgerLaid}
 use Rattle.runs.proofs.Appends.{named}
-use Rattle.ledger_reader.specs.Measured.{measured, ReadAs}
+use Rattle.ledger_reader.specs.Measured.{measured}
+use Rattle.ledger_reader.specs.Makes.{ReadAs}
 use Rattle.ledger_reader.proofs.Results as results
 
 -- the edition that is known is the ledger's own

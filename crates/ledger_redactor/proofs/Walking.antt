@@ -24,7 +24,7 @@ use Rattle.format.proofs.Demand.{fine_then, accepted_good, read_accepted}
 use Rattle.format.proofs.RedactLaws.{copy_is}
 use Rattle.runs.specs.Appended.{AppendedAt, LedgerLaid}
 use Rattle.runs.proofs.Appends.{nothing_yet, also, named}
-use Rattle.ledger_reader.specs.Measured.{ReadAs}
+use Rattle.ledger_reader.specs.Makes.{ReadAs}
 use Rattle.ledger_redactor.specs.Places.{covariance_at, behind_at, copy_to}
 use Rattle.ledger_redactor.proofs.Satellites.{satellite, header_size}
 use Rattle.ledger_redactor.proofs.Standing.{Stands, stands}

@@ -8,7 +8,7 @@ ghost use Rattle.std.specs.Prelude.{◌≡◌, ◌+◌, ◌*◌, ◌-◌, ◌≤
 ghost use Rattle.format.specs.Whole.{id_of, edition_of};
 ghost use Rattle.format.specs.Redact.{redacted, redact_answer, redact_left};
 ghost use Rattle.runs.specs.Appended.{AppendedAt, LedgerLaid};
-ghost use Rattle.ledger_reader.specs.Measured.{ReadAs, Makes};
+ghost use Rattle.ledger_reader.specs.Makes.{ReadAs, Makes};
 ghost use Rattle.ledger_redactor.specs.Measure.{redact_measure};
 ghost use Rattle.ledger_redactor.specs.Places.{flags_at, usable_size, metadata_size, entry_size, covariance_size, covariance_at, behind_at, copy_to};
 
