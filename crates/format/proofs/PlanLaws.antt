@@ -122,15 +122,15 @@ same_test a b e = go (eqb a 0) refl
     go true q = sym (eq-eqb b 104 (omega (arith, eqb-true a 0 q)))
     go false q = sym (ne_eqb b 104 (λ z. eqb-false a 0 q (omega (arith, z, e))))
 
--- a field in front of others: its number, the others, and how long all are
-record FieldOf (l i : Bool) (g : Sign) (nm : Name) (w : ℕ) (k : ℕ → Syntax) (ts : List Field) : Type 0 where
-  v : ℕ
-  us : List Field
-  is : ts ≡ num g nm w v ∷ us
-  small : v < 2 ^ w
-  good : Good.Good l i (k v) us
+-- a field in front of others: its number, and the others
+pub record FieldOf (l i : Bool) (g : Sign) (nm : Name) (w : ℕ) (k : ℕ → Syntax) (ts : List Field) : Type 0 where
+  pub v : ℕ
+  pub us : List Field
+  pub is : ts ≡ num g nm w v ∷ us
+  pub small : v < 2 ^ w
+  pub good : Good.Good l i (k v) us
 
-field_of : {l i : Bool} {g : Sign} {nm : Name} {w : ℕ} {k : ℕ → Syntax} {ts : List Field} → Good.Good l i (field g nm w k) ts → FieldOf l i g nm w k ts
+pub field_of : {l i : Bool} {g : Sign} {nm : Name} {w : ℕ} {k : ℕ → Syntax} {ts : List Field} → Good.Good l i (field g nm w k) ts → FieldOf l i g nm w k ts
 field_of (Good.g_field g nm w k v {ts} _ h r) = record { v = v; us = ts; is = refl; small = h; good = r }
 
 -- fields of n bits in front of others, none of them raw bytes

@@ -34,8 +34,8 @@ cons_ledger ed g nm w v ts = refl
 -- s is c bytes of fields that are neither flag nor part, and then r
 pub data Over : ℕ → Syntax → Syntax → Type 0 where
   at_once : {s : Syntax} → Over 0 s s
-  one_field : {c : ℕ} (g : Sign) (nm : Name) (w : ℕ) {k : ℕ → Syntax} {r : Syntax} → Ordinary nm → ((v : ℕ)
-      → Over c (k v) r) → Over (size g w + c) (field g nm w k) r
+  one_field : {c : ℕ} (g : Sign) (nm : Name) (w : ℕ) {k : ℕ → Syntax} {r : Syntax} → Ordinary nm
+      → ((v : ℕ) → Over c (k v) r) → Over (size g w + c) (field g nm w k) r
   either : {c d : ℕ} {t : Bool} {k m r : Syntax} → Over c k r → Over d m r → Over (cond t c d) (when t k m) r
   needing : {c : ℕ} (a : Fault) (w : ℕ) {k r : Syntax} → Over c k r → Over c (need a w k) r
 
@@ -117,8 +117,8 @@ pub over_stamp : {c : ℕ} (t : Name) {s r : Syntax} → Ordinary (text.◌++◌
     → Ordinary (text.◌++◌ t "_day") → Ordinary (text.◌++◌ t "_day_fraction") → Over c s r → Over (8 + c) (stamp t s) r
 over_stamp {c} t y z d f x =
     let e : 1 + (1 + (2 + (4 + c))) ≡ 8 + c = omega arith in
-    resize e (over_u (text.◌++◌ t "_year") 8 y (over_u (text.◌++◌ t "_reserved_zero_future_use") 7 z (over_u
-    (text.◌++◌ t "_day") 9 d (over_u (text.◌++◌ t "_day_fraction") 32 f x))))
+    resize e (over_u (text.◌++◌ t "_year") 8 y (over_u (text.◌++◌ t "_reserved_zero_future_use") 7 z
+    (over_u (text.◌++◌ t "_day") 9 d (over_u (text.◌++◌ t "_day_fraction") 32 f x))))
 
 over_motion : {c : ℕ} {s r : Syntax} → Over c s r → Over (32 + c) (motion s) r
 unfolding is_part is_flag
@@ -126,19 +126,15 @@ over_motion {c} x =
     let e : 8 + (4 + (4 + (4 + (4 + (4 + (4 + c)))))) ≡ 32 + c = omega arith in
     resize e (over_stamp "epoch" (refl, refl) (refl, refl) (refl, refl) (refl, refl)
     (over_u "ephemeris_x" 32 (refl, refl) (over_u "ephemeris_y" 32 (refl, refl) (over_u "ephemeris_z" 32 (refl, refl)
-    (over_u "ephemeris_x_dot" 32 (refl, refl) (over_u "ephemeris_y_dot" 32 (
-      refl,
-      refl,
-    ) (over_u "ephemeris_z_dot" 32 (refl, refl) x)))))))
+    (over_u "ephemeris_x_dot" 32 (refl, refl) (over_u "ephemeris_y_dot" 32 (refl, refl)
+    (over_u "ephemeris_z_dot" 32 (refl, refl) x)))))))
 
 over_acceleration : {c : ℕ} {s r : Syntax} → Over c s r → Over (12 + c) (acceleration s) r
 unfolding is_part is_flag
 over_acceleration {c} x =
     let e : 4 + (4 + (4 + c)) ≡ 12 + c = omega arith in
-    resize e (over_u "ephemeris_x_ddot" 32 (refl, refl) (over_u "ephemeris_y_ddot" 32 (
-      refl,
-      refl,
-    ) (over_u "ephemeris_z_ddot" 32 (refl, refl) x)))
+    resize e (over_u "ephemeris_x_ddot" 32 (refl, refl) (over_u "ephemeris_y_ddot" 32 (refl, refl)
+    (over_u "ephemeris_z_ddot" 32 (refl, refl) x)))
 
 -- an entry's size does not depend on what follows it
 entry_plus : (t : Bool) (c : ℕ) → cond t (44 + c) (32 + c) ≡ entry_size t + c
@@ -149,12 +145,13 @@ over_ephemeris : {c : ℕ} (accel : ℕ) {s r : Syntax} → Over c s r
     → Over (entry_size (eqb accel 1) + c) (ephemeris accel s) r
 over_ephemeris {c} accel x =
     let e : 32 + (12 + c) ≡ 44 + c = omega arith in
-    resize (entry_plus (eqb accel 1) c) (either (resize e (needing EphemerisCut 344 (over_motion
-    (over_acceleration x)))) (needing EphemerisCut 248 (over_motion x)))
+    let wide = resize e (needing EphemerisCut 344 (over_motion (over_acceleration x))) in
+    resize (entry_plus (eqb accel 1) c) (either wide (needing EphemerisCut 248 (over_motion x)))
 
 pub over_entries : (n accel : ℕ) {s : Syntax} → Over (n * entry_size (eqb accel 1)) (times n (ephemeris accel) s) s
-over_entries zero accel = let e : 0 ≡ 0 * entry_size (eqb accel 1) = sym (zero-mul (entry_size
-    (eqb accel 1))) in resize e at_once
+over_entries zero accel =
+    let w : ℕ = entry_size (eqb accel 1) in
+    resize (sym (zero-mul w)) at_once
 over_entries (suc n) accel =
     let w : ℕ = entry_size (eqb accel 1) in
     let e : w + n * w ≡ suc n * w = rw (suc-mul n w) (omega arith) in
@@ -183,10 +180,8 @@ over_metadata start stop =
     (over_u "metadata.reserved_zero_future_use" 1 (refl, refl) (over_u "interpolation_flag" 1 (refl, refl)
     (over_u "interpolation_type" 3 (refl, refl) (over_u "interpolation_degree" 3 (refl, refl)
     (over_usable UsableStartCut "usable_start_time" start (refl, refl) (refl, refl) (refl, refl) (refl, refl)
-    (over_usable UsableStopCut "usable_stop_time" stop (refl, refl) (refl, refl) (refl, refl) (
-      refl,
-      refl,
-    ) at_once)))))))))
+    (over_usable UsableStopCut "usable_stop_time" stop (refl, refl) (refl, refl) (refl, refl) (refl, refl)
+    at_once)))))))))
 
 -- what follows the flags, up to the count
 abbrev pub flags_of : (meta start stop accel cov : ℕ) → Flags
@@ -196,12 +191,12 @@ flags_of meta start stop accel cov =
       start = eqb start 1;
       stop = eqb stop 1;
       acceleration = eqb accel 1;
-      covariance =
-          eqb cov 1;
+      covariance = eqb cov 1;
     }
 
-pub over_rest : (meta start stop accel cov : ℕ) → Over (metadata_size (flags_of meta start stop accel cov)) (when
-    (eqb meta 1) (metadata start stop (ephemerides accel cov)) (ephemerides accel cov)) (ephemerides accel cov)
+pub over_rest : (meta start stop accel cov : ℕ)
+    → Over (metadata_size (flags_of meta start stop accel cov))
+    (when (eqb meta 1) (metadata start stop (ephemerides accel cov)) (ephemerides accel cov)) (ephemerides accel cov)
 over_rest meta start stop accel cov = either (over_metadata start stop) at_once
 
 part_elements : (n : ℕ) → Part (n * 4) (times n (u "covariance_elements" 32) end)
@@ -217,5 +212,5 @@ unfolding is_part
 part_covariance cov =
     part_when (part_need CovarianceCut 728 (part_field unsigned "covariance_epoch_year" 8 refl
     (λ _. part_field unsigned "covariance_epoch_reserved_zero_future_use" 7 refl
-    (λ _. part_field unsigned "covariance_epoch_day" 9 refl (λ _. part_field unsigned "covariance_epoch_day_fraction"
-    32 refl (λ _. part_elements 21)))))) part_end
+    (λ _. part_field unsigned "covariance_epoch_day" 9 refl
+    (λ _. part_field unsigned "covariance_epoch_day_fraction" 32 refl (λ _. part_elements 21)))))) part_end

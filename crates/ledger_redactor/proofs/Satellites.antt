@@ -11,12 +11,13 @@ use lib.ListN.{length, length-append}
 use Rattle.format.specs.declared.Edition.{Edition}
 use Rattle.format.specs.declared.Fault.TheVariants.{BodyEmpty, HeaderCut}
 use Rattle.format.specs.Digits.{digits}
-use Rattle.format.specs.Syntax.{Name, Sign, unsigned, Syntax, end, field, when, before, Field, num}
+use Rattle.format.specs.Syntax.{Name, unsigned, end, when, before, Field, num}
 use Rattle.format.specs.Ledger.{size, ledger}
 use Rattle.format.specs.Tables.{ephemerides, metadata, header, position3}
 use Rattle.format.specs.Redact.{is_flag, is_part, redact}
 use Rattle.format.proofs.DigitLaws.{length_digits}
 use Rattle.format.proofs.Good
+use Rattle.format.proofs.PlanLaws.{field_of}
 use Rattle.format.proofs.RedactFields.{Ordinary, redact_by}
 use Rattle.runs.specs.declared.Flags.{Flags}
 use Rattle.ledger_redactor.specs.Places.{metadata_size, entry_size, covariance_size}
@@ -42,17 +43,6 @@ pub record Satellite (bs keeps : List ℕ) : Type 0 where
   pub part_size : length part ≡ covariance_size (eqb cov 1)
   pub is : bs ≡ front ++ (meta ∷ start ∷ stop ∷ accel ∷ cov ∷ (about ++ (digits 256 2 count ++ (each ++ part))))
   pub keeps_is : keeps ≡ front ++ (meta ∷ start ∷ stop ∷ accel ∷ 0 ∷ (about ++ (digits 256 2 count ++ each)))
-
-record Led (l i : Bool) (g : Sign) (nm : Name) (w : ℕ) (k : ℕ → Syntax) (ts : List Field) : Type 0 where
-  v : ℕ
-  us : List Field
-  is : ts ≡ num g nm w v ∷ us
-  small : v < 2 ^ w
-  good : Good.Good l i (k v) us
-
-led : {l i : Bool} {g : Sign} {nm : Name} {w : ℕ} {k : ℕ → Syntax} {ts : List Field}
-    → Good.Good l i (field g nm w k) ts → Led l i g nm w k ts
-led (Good.g_field g nm w k v {ts} _ h r) = record { v = v; us = ts; is = refl; small = h; good = r }
 
 one_byte : (v : ℕ) → v < 2 ^ 1 → digits 256 1 v ≡ v ∷ []
 unfolding digits
@@ -99,11 +89,13 @@ rest : {l i : Bool} {ts : List Field} (ed : Edition) (meta start stop accel cov 
 unfolding is_part is_flag ledger
 rest {ts = ts} ed meta start stop accel cov r =
     let a = front ed (over_before (over_rest meta start stop accel cov)) r in
-    let c = led a.good in
+    let c = field_of a.good in
     let e = front ed (over_before (over_entries c.v accel)) c.good in
     let p = part_gone ed (part_before (part_covariance cov)) e.good in
     let d : List ℕ = digits 256 2 c.v in
     let es : List ℕ = ledger ed e.us in
+    let counted = field_kept ed "ephemeris_data_count" 16 c.is (refl, refl) in
+    let entries = e.kept ∙ ap (λ (x : List Field). es ++ ledger ed x) p.0 ∙ append-nil es in
     record {
       about = ledger ed a.us;
       count = c.v;
@@ -114,31 +106,28 @@ rest {ts = ts} ed meta start stop accel cov r =
       each_size = e.size;
       part_size = p.1;
       is = a.is ∙ ap (λ (x : List ℕ). ledger ed a.us ++ x) (ap (ledger ed) c.is
-          ∙ cons_ledger ed unsigned "ephemeris_data_count" 16 c.v c.us
-          ∙ ap (λ (x : List ℕ). d ++ x) e.is);
-      keeps_is = a.kept ∙ ap (λ (x : List ℕ). ledger ed a.us ++ x) (field_kept ed "ephemeris_data_count" 16 c.is (
-        refl,
-        refl,
-      )
-          ∙ ap (λ (x : List ℕ). d ++ x) (e.kept ∙ ap (λ (x : List Field). es ++ ledger ed x) p.0 ∙ append-nil es));
+          ∙ cons_ledger ed unsigned "ephemeris_data_count" 16 c.v c.us ∙ ap (λ (x : List ℕ). d ++ x) e.is);
+      keeps_is = a.kept ∙ ap (λ (x : List ℕ). ledger ed a.us ++ x) (counted ∙ ap (λ (x : List ℕ). d ++ x) entries);
     }
 
 pub satellite : {l i : Bool} {ts : List Field} (ed : Edition) → Good.Good l i (before position3) ts
     → Satellite (ledger ed ts) (ledger ed (redact ts))
 unfolding position3 is_part is_flag
 satellite {ts = ts} ed r =
-    let a = led r in
-    let b = led a.good in
-    let c = led b.good in
-    let d = led c.good in
-    let e = led d.good in
-    let f = led e.good in
-    let g = led f.good in
+    let a = field_of r in
+    let b = field_of a.good in
+    let c = field_of b.good in
+    let d = field_of c.good in
+    let e = field_of d.good in
+    let f = field_of e.good in
+    let g = field_of f.good in
     let x = rest ed c.v d.v e.v f.v g.v g.good in
     let ia : List ℕ = digits 256 4 a.v in
     let ib : List ℕ = digits 256 1 b.v in
     let tail : List ℕ = x.about ++ (digits 256 2 x.count ++ (x.each ++ x.part)) in
     let kept : List ℕ = x.about ++ (digits 256 2 x.count ++ x.each) in
+    let flag : List Field = num unsigned "covariance_flag" 1 0 ∷ redact g.us in
+    let cleared = flag_byte ed "covariance_flag" {v = 0} {ts = flag} {us = redact g.us} refl (omega arith) in
     record {
       front = ia ++ ib;
       meta = c.v;
@@ -175,8 +164,7 @@ satellite {ts = ts} ed r =
           ∙ ap (λ (y : List ℕ). e.v ∷ y) (flag_kept ed "ephemeris_accel_flag" f.is f.small (refl, refl)
           ∙ ap (λ (y : List ℕ). f.v ∷ y) (ap (λ (y : List Field). ledger ed (redact y)) g.is
           ∙ ap (ledger ed) (redact_by (num unsigned "covariance_flag" 1 g.v) g.us false true refl refl)
-          ∙ flag_byte ed "covariance_flag" {v = 0} {ts = num unsigned "covariance_flag" 1 0 ∷ redact g.us} {us = redact
-          g.us} refl (omega arith)
+          ∙ cleared
           ∙ ap (λ (y : List ℕ). 0 ∷ y) x.keeps_is))))))
           ∙ sym (append_assoc ia ib (c.v ∷ d.v ∷ e.v ∷ f.v ∷ 0 ∷ kept));
     }
@@ -192,10 +180,8 @@ pub header_size : {l i : Bool} {hs : List Field} (ed : Edition) → Good.Good l 
     → length (ledger ed hs) ≡ 10
 unfolding header is_part is_flag
 header_size ed g =
-    let x : Over 10 header end = needing BodyEmpty 1 (needing HeaderCut 64 (over_u "oem_version_major" 4 (
-      refl,
-      refl,
-    ) (over_u "oem_version_minor" 4 (refl, refl)
-    (over_stamp "creation_date" (refl, refl) (refl, refl) (refl, refl) (refl, refl) at_once)))) in
+    let date = over_stamp "creation_date" (refl, refl) (refl, refl) (refl, refl) (refl, refl) at_once in
+    let versions = over_u "oem_version_major" 4 (refl, refl) (over_u "oem_version_minor" 4 (refl, refl) date) in
+    let x : Over 10 header end = needing BodyEmpty 1 (needing HeaderCut 64 versions) in
     let f = front ed (over_before x) g in
     nothing ed f.us f.good f.is f.size

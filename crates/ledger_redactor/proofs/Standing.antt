@@ -85,8 +85,8 @@ module _ (l : List ℕ) (at : ℕ) (bs keeps more : List ℕ) (e : drop at l ≡
   kept_long : length keeps ≡ 12 + length x.about + length x.each
   kept_long =
       let d : List ℕ = digits 256 2 x.count in
-      ap length x.keeps_is ∙ length-append x.front (x.meta ∷ x.start ∷ x.stop ∷ x.accel ∷ 0 ∷ (x.about ++
-      (d ++ x.each)))
+      ap length x.keeps_is
+      ∙ length-append x.front (x.meta ∷ x.start ∷ x.stop ∷ x.accel ∷ 0 ∷ (x.about ++ (d ++ x.each)))
       ∙ omega (arith, x.five, length-append x.about (d ++ x.each), length-append d x.each, length_digits 256 2 x.count)
 
   long : length bs ≡ length keeps + length x.part
@@ -113,8 +113,8 @@ module _ (l : List ℕ) (at : ℕ) (bs keeps more : List ℕ) (e : drop at l ≡
   ends : behind_at l at ≡ at + length bs
   unfolding behind_at
   ends =
-      let w : covariance_size (flags_at l at).covariance ≡ length x.part = ap (λ
-      (f : Flags). covariance_size f.covariance) flags_are ∙ sym x.part_size in
+      let w : covariance_size (flags_at l at).covariance ≡ length x.part =
+      ap (λ (f : Flags). covariance_size f.covariance) flags_are ∙ sym x.part_size in
       omega (arith, w, starts, long)
 
   copied : copy_to l at (at + length keeps) ≡ keeps

@@ -15,59 +15,45 @@ overflow_add-count_place c = omega (arith, ten c.args.ledger.now c.args.place c.
 
 pub overflow_add-count_place-2 : goal.overflow_add-count_place-2
 overflow_add-count_place-2 c =
-    omega (
-      arith,
-      count_there c.args.ledger.now c.args.place c.flags_at-flags.ensures c.metadata_size.ensures
-          c.requires.0,
-      c.requires.1,
-    )
+    let l = c.args.ledger.now in
+    omega (arith, count_there l c.args.place c.flags_at-flags.ensures c.metadata_size.ensures c.requires.0, c.requires.1)
 
 pub get_be-count-requires : goal.get_be-count-requires
-get_be-count-requires c = omega (
-  arith,
-  count_there c.args.ledger.now c.args.place c.flags_at-flags.ensures
-      c.metadata_size.ensures c.requires.0,
-)
+get_be-count-requires c =
+    let l = c.args.ledger.now in
+    omega (arith, count_there l c.args.place c.flags_at-flags.ensures c.metadata_size.ensures c.requires.0)
 
 pub overflow_add-start : goal.overflow_add-start
 overflow_add-start c =
-    omega (
-      arith,
-      count_there c.args.ledger.now c.args.place c.flags_at-flags.ensures c.metadata_size.ensures
-          c.requires.0,
-      c.requires.1,
-    )
+    let l = c.args.ledger.now in
+    omega (arith, count_there l c.args.place c.flags_at-flags.ensures c.metadata_size.ensures c.requires.0, c.requires.1)
 
 pub entries_size-requires : goal.entries_size-requires
 entries_size-requires c =
     let l = c.args.ledger.now in
     let b = below_of 256 l (λ i. omega (arith, c.type_inv.ledger i)) in
-    let p = c.args.place + 10 + c.metadata_size.result in
-    omega (
-      arith,
-      two_bytes l p b (count_there c.args.ledger.now c.args.place c.flags_at-flags.ensures
-          c.metadata_size.ensures c.requires.0),
-      c.get_be-count.ensures,
-    )
+    let there = count_there l c.args.place c.flags_at-flags.ensures c.metadata_size.ensures c.requires.0 in
+    omega (arith, two_bytes l (c.args.place + 10 + c.metadata_size.result) b there, c.get_be-count.ensures)
 
 pub overflow_add-start-2 : goal.overflow_add-start-2
 overflow_add-start-2 c =
-    omega (
-      arith,
-      start_there c.args.ledger.now c.args.place c.flags_at-flags.ensures c.metadata_size.ensures
-          c.get_be-count.ensures c.entries_size.ensures c.requires.0,
-      c.requires.1,
-    )
+    let f = c.flags_at-flags.ensures in
+    let n = c.get_be-count.ensures in
+    let there = start_there c.args.ledger.now c.args.place f c.metadata_size.ensures n c.entries_size.ensures in
+    omega (arith, there c.requires.0, c.requires.1)
 
 pub overflow_add-end : goal.overflow_add-end
 overflow_add-end c =
-    let e = end_is c.args.ledger.now c.args.place c.flags_at-flags.ensures c.metadata_size.ensures
-    c.get_be-count.ensures c.entries_size.ensures c.covariance_size.ensures in
-    omega (arith, e, c.requires.0, c.requires.1)
+    let f = c.flags_at-flags.ensures in
+    let n = c.get_be-count.ensures in
+    let s = c.entries_size.ensures in
+    let is = end_is c.args.ledger.now c.args.place f c.metadata_size.ensures n s c.covariance_size.ensures in
+    omega (arith, is, c.requires.0, c.requires.1)
 
 pub returns-clause-start : goal.returns-clause-start
-returns-clause-start c = start_is c.args.ledger.now c.args.place c.flags_at-flags.ensures c.metadata_size.ensures
-    c.get_be-count.ensures c.entries_size.ensures
+returns-clause-start c =
+    start_is c.args.ledger.now c.args.place c.flags_at-flags.ensures c.metadata_size.ensures c.get_be-count.ensures
+    c.entries_size.ensures
 
 pub returns-clause-end : goal.returns-clause-end
 returns-clause-end c =

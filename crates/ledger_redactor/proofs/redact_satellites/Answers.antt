@@ -7,26 +7,20 @@ use Rattle.ledger_redactor.proofs.redact_satellites.Goals as goal
 
 pub get_be-count-requires : goal.get_be-count-requires
 get_be-count-requires c =
-    let w = whole c.args.ledger.now (below_of 256 c.args.ledger.now (λ i. omega (
-      arith,
-      c.type_inv.ledger i,
-    ))) c.requires in
+    let b = below_of 256 c.args.ledger.now (λ i. omega (arith, c.type_inv.ledger i)) in
+    let w = whole c.args.ledger.now b c.requires in
     omega (arith, w.long)
 
 pub slice_bounds-append-end : goal.slice_bounds-append-end
 slice_bounds-append-end c =
-    let w = whole c.args.ledger.now (below_of 256 c.args.ledger.now (λ i. omega (
-      arith,
-      c.type_inv.ledger i,
-    ))) c.requires in
+    let b = below_of 256 c.args.ledger.now (λ i. omega (arith, c.type_inv.ledger i)) in
+    let w = whole c.args.ledger.now b c.requires in
     omega (arith, w.long)
 
 pub loop-init : goal.loop-init
 loop-init c =
-    let w = whole c.args.ledger.now (below_of 256 c.args.ledger.now (λ i. omega (
-      arith,
-      c.type_inv.ledger i,
-    ))) c.requires in
+    let b = below_of 256 c.args.ledger.now (λ i. omega (arith, c.type_inv.ledger i)) in
+    let w = whole c.args.ledger.now b c.requires in
     begins w (omega (arith, c.append-at.ensures.size))
 
 pub covariance_of-covariance-requires : goal.covariance_of-covariance-requires

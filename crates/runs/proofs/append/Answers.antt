@@ -6,8 +6,6 @@ use Rattle.runs.proofs.append.Goals as goal
 
 pub returns : goal.returns
 returns c =
-    append_part c.args.out.now c.args.bytes.now c.copy_bytes.new.out c.args.at c.min-start.result (omega (
-      arith,
-      c.min-start.ensures,
-    )) (λ h. omega (arith, c.min-start.ensures))
-    c.copy_bytes.ensures
+    let out = c.args.out.now in
+    append_part out c.args.bytes.now c.copy_bytes.new.out c.args.at c.min-start.result
+    (omega (arith, c.min-start.ensures)) (λ h. omega (arith, c.min-start.ensures)) c.copy_bytes.ensures
