@@ -1,50 +1,59 @@
 // The text that sat_entries writes: a line for each field of a body, under the field's path.
 #![tactic(auto)]
 
+use arrayvec::ArrayString;
 use clocks::{Clock, Stamp};
 use parts::Part;
-use std::alloc::Global;
-use std::fmt::Display;
-use std::io::Write;
+use std::fmt::{Display, Write as _};
+use std::io::{ErrorKind, Write};
 use std::{fmt, io};
+
+// The most bytes of a path; the longest one has 50.
+const PATH_MAX: usize = 64;
 
 // The lines of one part of a body: where they go, and the part's path, as `plans[2].mode`. That of the body is empty.
 #[derive(Drop)]
 pub struct Listing<'a, W: Write> {
     to: &'a mut W,
-    alloc: Global,
-    path: String,
+    path: ArrayString<PATH_MAX>,
+}
+
+// What a path that is too long is told by.
+fn path_full<T: Drop>(_: T) -> io::Error {
+    io::Error::from(ErrorKind::StorageFull)
 }
 
 impl<'a, W: Write> Listing<'a, W> {
     // The listing of a body.
-    pub fn new(alloc: Global, to: &'a mut W) -> Listing<'a, W> {
+    pub fn new(to: &'a mut W) -> Listing<'a, W> {
         Listing {
             to,
-            alloc,
-            path: String::new(alloc),
+            path: ArrayString::new(),
         }
     }
 
     // The listing of a part, under its name.
     pub fn part(&mut self, name: &str) -> io::Result<Listing<'_, W>> {
-        let mut path = self.path.clone()?;
+        let mut path = self.path;
         if !path.is_empty() {
-            path.push('.')?;
+            path.try_push('.').map_err(path_full)?;
         }
-        path.push_str(name)?;
-        let alloc = self.alloc;
+        path.try_push_str(name).map_err(path_full)?;
         let to = &mut *self.to;
-        Ok(Listing { to, alloc, path })
+        Ok(Listing { to, path })
     }
 
     // The listing of an element of a list.
     pub fn element(&mut self, index: usize) -> io::Result<Listing<'_, W>> {
-        let list = self.path.as_str();
-        let alloc = self.alloc;
-        let path = format!(in alloc; "{list}[{index}]")?;
+        let mut path = self.path;
+        write!(path, "[{index}]").map_err(path_full)?;
         let to = &mut *self.to;
-        Ok(Listing { to, alloc, path })
+        Ok(Listing { to, path })
+    }
+
+    // Lines as they stand, with their line ends.
+    pub fn text(&mut self, lines: &str) -> io::Result<()> {
+        self.to.write_all(lines.as_bytes())
     }
 
     // A line that belongs to no field.
@@ -131,12 +140,20 @@ pub fn bytes_of(body: &[u8], part: Part) -> &[u8] {
 pub struct Hexadecimal<'a>(pub &'a [u8]);
 
 impl Display for Hexadecimal<'_> {
+    // Eight bytes at a time where there are as many: what a call of the formatter costs is shared by their digits.
     fn fmt<W: fmt::Write>(&self, f: &mut fmt::Formatter<W>) -> fmt::Result {
         if self.0.is_empty() {
             return write!(f, "-");
         }
-        for byte in self.0 {
-            write!(f, "{byte:02x}")?;
+        for bytes in self.0.chunks(8) {
+            match <[u8; 8]>::try_from(bytes) {
+                Ok(eight) => write!(f, "{:016x}", u64::from_be_bytes(eight))?,
+                Err(_) => {
+                    for byte in bytes {
+                        write!(f, "{byte:02x}")?;
+                    }
+                }
+            }
         }
         Ok(())
     }
@@ -149,17 +166,31 @@ pub struct Slots<'a> {
     pub count: usize,
 }
 
+impl Slots<'_> {
+    // The digit of the slot at an index; `?` where the bytes do not have it.
+    fn digit(&self, index: usize) -> char {
+        match self.bytes.get(index / 8) {
+            Some(byte) if (byte >> (7 - index % 8)) % 2 == 1 => '1',
+            Some(_) => '0',
+            None => '?',
+        }
+    }
+}
+
 impl Display for Slots<'_> {
+    // Handed to the formatter by many at once, since each call of it costs more than a digit.
     fn fmt<W: fmt::Write>(&self, f: &mut fmt::Formatter<W>) -> fmt::Result {
         if self.count == 0 {
             return write!(f, "-");
         }
+        let mut digits = ArrayString::<64>::new();
         for i in 0..self.count {
-            match self.bytes.get(i / 8) {
-                Some(byte) => write!(f, "{}", (byte >> (7 - i % 8)) % 2)?,
-                None => write!(f, "?")?,
+            if digits.is_full() {
+                f.write_str(digits.as_str())?;
+                digits.clear();
             }
+            digits.try_push(self.digit(i)).map_err(|_| fmt::Error)?;
         }
-        Ok(())
+        f.write_str(digits.as_str())
     }
 }

@@ -16,7 +16,7 @@ pub fn show_case<W: Write>(out: &mut Listing<'_, W>, id: u8, body: &[u8]) -> io:
         Ok(whole) => show_body(out, id, body, whole)?,
         Err(refusal) => show_refusal(out, refusal)?,
     }
-    out.line("")
+    out.text("\n")
 }
 
 fn show_refusal<W: Write>(out: &mut Listing<'_, W>, f: Refusal) -> io::Result<()> {

@@ -1,9 +1,9 @@
 // A line of the input: a case in hexadecimal, taken a character at a time.
 use crate::case::show_case;
+use arrayvec::ArrayVec;
 use list_text::Listing;
-use std::alloc::{AllocError, Global};
+use std::io;
 use std::io::Write;
-use std::{fmt, io};
 
 // How many bytes of a line are kept: the table id, and 65,536 of the body.
 const MOST: usize = 65537;
@@ -16,12 +16,13 @@ enum NoCase {
     TooLong,
 }
 
-impl fmt::Display for NoCase {
-    fn fmt<W: fmt::Write>(&self, f: &mut fmt::Formatter<W>) -> fmt::Result {
+impl NoCase {
+    // What is listed of it, and an empty line.
+    fn lines(self) -> &'static str {
         match self {
-            NoCase::NoInput => write!(f, "no input"),
-            NoCase::NotHexadecimal => write!(f, "not hexadecimal"),
-            NoCase::TooLong => write!(f, "too long"),
+            NoCase::NoInput => "case no input\n\n",
+            NoCase::NotHexadecimal => "case not hexadecimal\n\n",
+            NoCase::TooLong => "case too long\n\n",
         }
     }
 }
@@ -29,7 +30,7 @@ impl fmt::Display for NoCase {
 // What there is of the line in hand.
 #[derive(Drop)]
 pub struct Line {
-    bytes: Vec<u8>,
+    bytes: ArrayVec<u8, MOST>,
     // A digit that is the upper half of a byte, as that half.
     half: Option<u8>,
     // What is wrong with it so far.
@@ -37,9 +38,9 @@ pub struct Line {
 }
 
 impl Line {
-    pub fn new(alloc: Global) -> Line {
+    pub fn new() -> Line {
         Line {
-            bytes: Vec::new(alloc),
+            bytes: ArrayVec::new(),
             half: None,
             fault: None,
         }
@@ -56,26 +57,22 @@ impl Line {
     }
 
     // Takes a character. One that is no digit is told before all else, and a line too long only where it has none.
-    pub fn take(&mut self, character: u8) -> Result<(), AllocError> {
+    pub fn take(&mut self, character: u8) {
         let Some(digit) = char::from(character).to_digit(16) else {
             self.fault = Some(NoCase::NotHexadecimal);
-            return Ok(());
+            return;
         };
         let digit = digit as u8;
         match self.half.take() {
             None => self.half = Some(digit << 4),
-            Some(half) => self.take_byte(half | digit)?,
+            Some(half) => self.take_byte(half | digit),
         }
-        Ok(())
     }
 
-    fn take_byte(&mut self, byte: u8) -> Result<(), AllocError> {
-        if self.bytes.len() < MOST {
-            self.bytes.push(byte)?;
-        } else if self.fault.is_none() {
+    fn take_byte(&mut self, byte: u8) {
+        if self.bytes.try_push(byte).is_err() && self.fault.is_none() {
             self.fault = Some(NoCase::TooLong);
         }
-        Ok(())
     }
 
     // Lists the case of a line that is whole: its first byte is the table id, the others are the body.
@@ -86,12 +83,8 @@ impl Line {
         };
         match (fault, self.bytes.split_first()) {
             (None, Some((id, body))) => show_case(out, *id, body),
-            (None, None) => show_no_case(out, NoCase::NoInput),
-            (Some(fault), _) => show_no_case(out, fault),
+            (None, None) => out.text(NoCase::NoInput.lines()),
+            (Some(fault), _) => out.text(fault.lines()),
         }
     }
-}
-
-fn show_no_case<W: Write>(out: &mut Listing<'_, W>, fault: NoCase) -> io::Result<()> {
-    out.line(format_args!("case {fault}\n"))
 }

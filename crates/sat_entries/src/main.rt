@@ -5,30 +5,32 @@
 
 use input::Line;
 use list_text::Listing;
-use std::alloc::Global;
+use output::Output;
 use std::io;
-use std::io::{BufReader, BufWriter, ErrorKind, Read, Stdout, Write};
-use std::process::ExitCode;
+use std::io::{Read, Write};
 
 mod case;
 mod input;
+mod output;
 
-// Lists the cases of the input. A read that fails ends it.
-fn list_all<R: Read + Drop, W: Write>(
-    alloc: Global,
-    input: BufReader<R>,
-    to: &mut W,
-) -> io::Result<()> {
-    let mut out = Listing::new(alloc, to);
-    let mut line = Line::new(alloc);
-    for character in input.bytes() {
-        match character {
-            Ok(b'\n') => {
+// Lists the cases of the input, read a block at a time, counted by a number that no run uses up. A read that fails ends
+// it.
+fn list_all<R: Read, W: Write>(input: &mut R, to: &mut W) -> io::Result<()> {
+    let mut out = Listing::new(to);
+    let mut line = Line::new();
+    let mut block = [0u8; 8192];
+    for _ in 0..u64::MAX {
+        let n = input.read(&mut block).unwrap_or(0);
+        if n == 0 {
+            break;
+        }
+        for &character in &block[..n] {
+            if character == b'\n' {
                 line.show(&mut out)?;
                 line.clear();
+            } else {
+                line.take(character);
             }
-            Ok(character) => line.take(character)?,
-            Err(_) => break,
         }
     }
     // A last line that no line end follows.
@@ -38,30 +40,14 @@ fn list_all<R: Read + Drop, W: Write>(
     Ok(())
 }
 
-fn run(rt: &HostRuntime, to: &mut BufWriter<Stdout>) -> io::Result<()> {
-    let input = BufReader::with_capacity(rt.alloc(), 65536, rt.stdin())?;
-    list_all(rt.alloc(), input, to)?;
+fn list(rt: &HostRuntime) -> io::Result<()> {
+    let mut to = Output::new(rt.stdout());
+    list_all(&mut rt.stdin(), &mut to)?;
     to.flush()
 }
 
-// Where the output cannot be written the program stops, and tries no more of it.
-fn list(rt: &HostRuntime) -> io::Result<()> {
-    let mut to = BufWriter::new(rt.alloc(), rt.stdout())?;
-    let listed = run(rt, &mut to);
-    if listed.is_err() {
-        let _ = to.into_parts();
-    }
-    listed
-}
-
-// That memory ran out the program tells, in words of its own: the library's text of an error would be one thing more to
-// trust.
-fn main(rt: HostRuntime) -> ExitCode {
-    match list(&rt) {
-        Err(e) if e.kind() == ErrorKind::OutOfMemory => {
-            let _ = rt.stderr().write_all(b"sat_entries: out of memory\n");
-            ExitCode::FAILURE
-        }
-        _ => ExitCode::SUCCESS,
-    }
+// Where the output cannot be written the program stops, and tries no more of it: there is nowhere else to say so. All
+// the memory that it takes is there from the start.
+fn main(rt: HostRuntime) {
+    let _ = list(&rt);
 }
