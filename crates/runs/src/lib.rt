@@ -97,12 +97,15 @@ pub fn low_of(mark: u8, x: u64) -> u64
 }
 
 // Copies bytes as they are to the buffer's start, where there is room for all of them; else the buffer stays as it was.
+// By index, since the library's copy would need memmove from whoever links the archive for C.
 pub fn copy_bytes(bytes: &[u8], out: &mut [u8])
     ensures { out.new ≡ stored out.old 0 bytes.now }
 {
     let n = bytes.len();
     if n <= out.len() {
-        out[..n].copy_from_slice(bytes);
+        for i in 0..n {
+            out[i] = bytes[i];
+        }
     }
 }
 

@@ -15,7 +15,7 @@ ghost use Rattle.write_plans.specs.Slots.{packed_bits};
 
 use bits::{Cursor, read_u, value_at};
 use format::{Edition, Fault, Refusal};
-use runs::marks;
+use runs::{copy_bytes, marks};
 use write_runs::{Step, enough, put, write_needed, write_run};
 
 // m bits of a body as bytes, the last one filled up with zeros, where there is room for all of them; whole bytes are
@@ -30,7 +30,7 @@ fn write_bits(body: &[u8], at: u16, m: usize, out: &mut [u8], place: usize)
     }
     let from = at as usize;
     if from % 8 == 0 && m % 8 == 0 {
-        out[place..place + whole].copy_from_slice(&body[from / 8..from / 8 + whole]);
+        copy_bytes(&body[from / 8..from / 8 + whole], &mut out[place..]);
         return;
     }
     for i in 0..whole {

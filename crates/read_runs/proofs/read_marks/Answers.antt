@@ -1,5 +1,6 @@
 -- `read_marks`: the loop came along the lines of the run, under any names.
 -- Assumes nothing.
+use Prim.Native.Nat.{ℕ}
 use mathlib.Core.Path.{◌≡◌, refl}
 use mathlib.Core.List.{[]}
 use native.Mathlib.Omega.{arith}
@@ -38,7 +39,7 @@ loop-mark-preserved c =
       λ nms. turn (line (head_name (drop l.mark-index nms)) (get_or c.args.marks.now l.mark-index 0)) (l.invariant.0 nms)
           (λ k. lines_next nms _ _ _ k c.loop-mark-test.true)
           (λ way k. (c.in_ok-end.ensures.laid way (head_name (drop l.mark-index nms)) k).to),
-      last_in c.args.marks.now l.mark-index c.in_ok-end.ensures.result_bound,
+      last_in (λ (v : ℕ). v) refl c.args.marks.now l.mark-index c.in_ok-end.ensures.result_bound,
     )
 
 pub returns-clause-laid : goal.returns-clause-laid

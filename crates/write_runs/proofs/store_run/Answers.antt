@@ -1,5 +1,6 @@
 -- `store_run` meets its contract: a mark a turn; the law of runs says what the loop has stored.
 -- Assumes nothing.
+use Prim.Native.Nat.{ℕ}
 use mathlib.Core.Path.{◌≡◌, refl}
 use mathlib.Core.List.{[]}
 use native.Mathlib.Omega.{arith}
@@ -35,7 +36,7 @@ loop-mark-preserved c =
       λ nms. came (line (head_name (drop l.mark-index nms)) (get_or ms l.mark-index 0)) (l.invariant.0 nms)
           (λ k. lines_next nms _ _ _ k (omega arith))
           (λ e k. step.ran e (head_name (drop l.mark-index nms)) k),
-      last_in ms l.mark-index step.result_bound,
+      last_in (λ (v : ℕ). v) refl ms l.mark-index step.result_bound,
       balance_next ms a.at a.place l.end.at l.end.place l.mark-index (omega arith) step.moved.to l.invariant.2,
     )
 
