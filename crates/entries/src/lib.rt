@@ -5,6 +5,7 @@
 ghost use Rattle.std.specs.Prelude.{◌≡◌, ◌%◌, ◌≤◌, length};
 ghost use Rattle.format.specs.Whole.{layout, body_starts};
 ghost use Rattle.format.specs.At.{end_of, seek};
+ghost use Rattle.format.specs.Tables.{position, fragment, beamhopping, position3};
 ghost use Rattle.format.specs.Lists.{IsList, list_id, entry_syntax, head_syntax};
 ghost use Rattle.entries.specs.Entries.{head_end, list_starts, next_of, walked, Sure};
 
@@ -25,12 +26,45 @@ pub struct Walk {
     pub end: u16,
 }
 
-// Of what was read, the place behind it.
+// Of what was read, the place behind it. Inlined for speed, so that what nobody asks for is not made.
+#[inline(always)]
 #[tactic(auto, unfolding(crate::specs::Entries::next_of))]
 fn next_of<T: Copy>(found: Result<Found<T>, Refusal>) -> Result<u16, Refusal>
     ensures { result ≡ next_of found }
 {
     Ok(found?.next)
+}
+
+// Where the entry of a table ends. Each by itself, and not inlined, for speed: what is read has a place of its own in
+// memory, which is cleared where a function begins, and with all four in one function an entry took twice as long.
+#[inline(never)]
+fn satellite_end(from: Cursor<'_>) -> Result<u16, Refusal>
+    ensures { result ≡ end_of from.entry.body.now position from.entry.at }
+{
+    next_of(read_satellite(from))
+}
+
+#[inline(never)]
+fn fragment_end(from: Cursor<'_>) -> Result<u16, Refusal>
+    ensures { result ≡ end_of from.entry.body.now fragment from.entry.at }
+{
+    next_of(read_fragment(from))
+}
+
+#[inline(never)]
+fn plan_end(from: Cursor<'_>) -> Result<u16, Refusal>
+    requires at_value { from.at % 8 ≡ 0 }
+    ensures { result ≡ end_of from.entry.body.now beamhopping from.entry.at }
+{
+    next_of(read_plan(from))
+}
+
+#[inline(never)]
+fn satellite_v3_end(from: Cursor<'_>) -> Result<u16, Refusal>
+    requires at_value { from.at % 8 ≡ 0 }
+    ensures { result ≡ end_of from.entry.body.now position3 from.entry.at }
+{
+    next_of(read_satellite_v3(from))
 }
 
 // Where the entry of a list at a place ends, which starts a byte (`at_value`; see `Cursor`).
@@ -39,10 +73,10 @@ pub fn entry_end(table: ListTable, from: Cursor<'_>) -> Result<u16, Refusal>
     ensures { result ≡ end_of from.entry.body.now (entry_syntax (list_id table)) from.entry.at }
 {
     match table {
-        ListTable::PositionV2 => next_of(read_satellite(from)),
-        ListTable::CellFragment => next_of(read_fragment(from)),
-        ListTable::BeamhoppingTimePlan => next_of(read_plan(from)),
-        ListTable::PositionV3 => next_of(read_satellite_v3(from)),
+        ListTable::PositionV2 => satellite_end(from),
+        ListTable::CellFragment => fragment_end(from),
+        ListTable::BeamhoppingTimePlan => plan_end(from),
+        ListTable::PositionV3 => satellite_v3_end(from),
     }
 }
 

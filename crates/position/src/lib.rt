@@ -99,7 +99,8 @@ fn read_system(from: Cursor<'_>, kind: u64) -> Result<Found<PositionSystem>, Ref
     }
 }
 
-// The satellite at a place.
+// The satellite at a place. Inlined for speed: who goes from entry to entry wants only the place behind it.
+#[inline(always)]
 pub fn read_satellite(from: Cursor<'_>) -> Result<Found<PositionV2Satellite>, Refusal>
     ensures { result ≡ satellite_at from.entry.body.now from.entry.at }
 {
