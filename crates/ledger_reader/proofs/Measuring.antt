@@ -80,9 +80,9 @@ module _ (v : ℕ) where
       go true h e = let o : ◌≡◌ {A = ℕ} 0 1 = cc in absurd (omega arith)
       go false h e = h
 
-pub headed : {l : List ℕ} {ed : Edition} → 4 ≤ length l → value 256 (take 2 l) ≡ length l - 2 → Ok ed ≡ edition_named (version_of l) → Headed l ed
-headed h e v =
-    let z = known_by _ v in
+pub headed : {l : List ℕ} {r : Result Edition UnknownVersion} {ed : Edition} → 4 ≤ length l → value 256 (take 2 l) ≡ length l - 2 → Ok ed ≡ r → r ≡ edition_named (version_of l) → Headed l ed
+headed h e x q =
+    let z = known_by _ (x ∙ q) in
     record { four = h; long = e; version = z.0; edition = z.1 }
 
 pub framed : {l : List ℕ} → Below 256 l → 4 ≤ length l → value 256 (take 2 l) ≡ length l - 2 → Framed l
@@ -103,9 +103,10 @@ module _ (l : List ℕ) where
   unfolding ledger_read
   measure_wrong h e = measure_no (rw (le-leb 4 (length l) h, ne_eqb (value 256 (take 2 l)) (length l - 2) e))
 
-  pub measure_version : {u : UnknownVersion} → 4 ≤ length l → value 256 (take 2 l) ≡ length l - 2 → Err u ≡ edition_named (version_of l) → Err (refuse VersionUnknown 2 0) ≡ measure_of l
+  pub measure_version : {r : Result Edition UnknownVersion} {u : UnknownVersion} → 4 ≤ length l → value 256 (take 2 l) ≡ length l - 2 → Err u ≡ r → r ≡ edition_named (version_of l)
+      → Err (refuse VersionUnknown 2 0) ≡ measure_of l
   unfolding ledger_read
-  measure_version h e v = measure_no (rw (le-leb 4 (length l) h, eq-eqb (value 256 (take 2 l)) (length l - 2) e, unknown_by _ v))
+  measure_version h e x q = measure_no (rw (le-leb 4 (length l) h, eq-eqb (value 256 (take 2 l)) (length l - 2) e, unknown_by _ (x ∙ q)))
 
   -- ---- its content
 

@@ -128,11 +128,12 @@ pub hex_short : (bytes l : List ℕ) → length l ≤ 2 * length bytes → Store
 hex_short bytes l h = too_short (hex_line bytes) l (omega (arith, hex_line_length bytes))
 
 -- the digits that the library laid, and the newline behind them
-pub hex_stored : {E : Type 0} (r : Result (Unit {0}) E) (bytes l o : List ℕ) → ((i : ℕ) → get_or bytes i 0 < 256)
+pub hex_stored : {E : Type 0} {out : List ℕ} (r : Result (Unit {0}) E) (bytes l o : List ℕ) → ((i : ℕ) → get_or bytes i 0 < 256)
     → 2 * length bytes < length l → IsOk r → OnOk r (o ≡ encode_lower bytes)
-    → Stored (hex_line bytes) l (set (o ++ drop (2 * length bytes) l) (2 * length bytes) 10) (Some (2 * length bytes + 1))
+    → out ≡ set (o ++ drop (2 * length bytes) l) (2 * length bytes) 10
+    → Stored (hex_line bytes) l out (Some (2 * length bytes + 1))
 unfolding hex_line
-hex_stored r bytes l o b h ok laid =
+hex_stored r bytes l o b h ok laid is =
     let n : ℕ = 2 * length bytes in
     let size = hex_length bytes in
     let digits : o ≡ hex_text bytes = ok_then r ok laid ∙ hex_is bytes (below_of 256 bytes b) in
@@ -143,7 +144,7 @@ hex_stored r bytes l o b h ok laid =
     ap (λ (k : List ℕ). set k n 10) front ∙ set_one _ n 10 room
     ∙ splice_splice l 0 (hex_text bytes) (10 ∷ []) n (omega arith) (omega arith) in
     let long = hex_line_length bytes in
-    stored_whole (hex_line bytes) l _ _ (omega (arith, long)) (ap Some (sym long)) (rw digits all)
+    stored_whole (hex_line bytes) l _ _ (omega (arith, long)) (ap Some (sym long)) (is ∙ rw digits all)
 
 -- what a number's digits add to a line, and a number behind a space
 pub digits_added : {E : Type 0} (r : Result (Unit {0}) E) (n : ℕ) (line text out : List ℕ) → n < 2 ^ 64

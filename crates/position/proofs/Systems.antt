@@ -1,7 +1,7 @@
 -- The steps of the proofs at a position: its fields where all of them are there, its kind, and the satellite around it.
 -- Assumes nothing.
-use Prim.Native.Nat.{ℕ, ◌+◌, ◌*◌, ◌≤◌}
-use mathlib.Core.Path.{◌≡◌, refl, sym, ap, ◌∙◌}
+use Prim.Native.Nat.{ℕ, ◌+◌, ◌-◌, ◌*◌, ◌≤◌, ◌<◌}
+use mathlib.Core.Path.{◌≡◌, refl, sym, ap, ◌∙◌, subst}
 use mathlib.Core.List.{List, [], ◌∷◌, ◌++◌}
 use native.Mathlib.Omega.{arith}
 use lib.Dec.{eqb}
@@ -21,6 +21,9 @@ use Rattle.format.proofs.ReadLaws as laws
 use Rattle.format.proofs.GroupLaws.{Line, plainly, fields, shift, shift_add, ends, stand, group}
 use Rattle.bits.specs.Read.{read_at}
 use Rattle.bits.proofs.Reading.{got, enough, sub}
+use Rattle.bit_reader.specs.Readers.{enough_at}
+use Rattle.bit_reader.proofs.Reading.{lacked}
+use Rattle.bit_reader.proofs.Reading as group-reading
 use Rattle.position.specs.Satellite.{orbital_of, elements_of, system_of, satellite_of, satellite_at, orbital_at, elements_at, system_at}
 use Rattle.position.specs.declared.PositionSystem.{PositionSystem}
 use Rattle.position.specs.declared.PositionV2Satellite.{PositionV2Satellite}
@@ -53,6 +56,14 @@ tested b e p a ls found fail h q =
     enough b e p found fail a (ends 0 ls) (fields ls end) (omega arith)
     (group b e p ls end found fail h
     (q ∙ sym (laws.end_at b e (shift p (ends 0 ls)) (λ ts. found (stand b p 0 ls ++ ts)) fail (omega (arith, shift_add p (ends 0 ls))))))
+
+-- a position of which bits are missing, by a test of w bits that is one of 24 where it fails
+pub orbital_short : {w : ℕ} {t : Result (Unit {0}) Refusal} {f : Refusal} (b : List ℕ) (p : ℕ) → t ≡ enough_at b p OrbitalCut w → t ≡ Err f → (8 * length b - p < w → w ≡ 24)
+    → Err f ≡ orbital_at b p
+unfolding orbital_at
+orbital_short {w} {t} b p e m h =
+    let z : t ≡ enough_at b p OrbitalCut 24 = subst (λ (k : ℕ). t ≡ enough_at b p OrbitalCut k) (h (lacked b p w OrbitalCut e m).0) e in
+    group-reading.short b 0 p (λ ts n. found_at (orbital_of ts) n) Err OrbitalCut 24 _ z m refl
 
 module _ {r : Result (Found PositionSystem) Refusal} (b : List ℕ) (p : ℕ) where
   -- a position of which all bits are there

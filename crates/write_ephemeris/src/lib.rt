@@ -59,28 +59,7 @@ fn write_entry<'a>(from: Step<'a>, accel: bool, out: &mut [u8]) -> Result<Step<'
     write_needed(from, Fault::EphemerisCut, 248, &marks::MOTION, out)
 }
 
-// The same, in the part of the buffer that begins at the place.
-fn write_next<'a>(from: Step<'a>, accel: bool, out: &mut [u8]) -> Result<Step<'a>, Refusal>
-    ensures { (e : Around) (k : ℕ → Syntax)
-        → RanFrom from.entry e (ephemeris_to (from_bool accel) k) out.old k out.new result }
-{
-    let start = from.place.min(out.len());
-    let part = Step {
-        body: from.body,
-        place: 0,
-        at: from.at,
-        last: 0,
-    };
-    let entry = write_entry(part, accel, &mut out[start..])?;
-    Ok(Step {
-        body: entry.body,
-        place: from.place + entry.place,
-        at: entry.at,
-        last: entry.last,
-    })
-}
-
-// So many ephemeris entries, each from where the last one ended.
+// So many ephemeris entries, each in the part of the buffer that begins where the last one ended.
 fn write_each<'a>(
     from: Step<'a>,
     accel: bool,
@@ -90,11 +69,26 @@ fn write_each<'a>(
     ensures { (e : Around) (s : Syntax)
         → RanFrom from.entry e (times count (ephemeris (from_bool accel)) s) out.old (λ _. s) out.new result }
 {
-    let mut step = from;
+    let mut at = from.at;
+    let mut place = from.place;
     for _ in 0..count {
-        step = write_next(step, accel, out)?;
+        let start = place.min(out.len());
+        let part = Step {
+            body: from.body,
+            place: 0,
+            at,
+            last: 0,
+        };
+        let entry = write_entry(part, accel, &mut out[start..])?;
+        at = entry.at;
+        place += entry.place;
     }
-    Ok(step)
+    Ok(Step {
+        body: from.body,
+        place,
+        at,
+        last: 0,
+    })
 }
 
 // The ephemeris entries behind their count, and the covariance where its flag is set.

@@ -4,7 +4,7 @@ use mathlib.Core.Path.{sym, ◌∙◌}
 use native.Mathlib.Omega.{arith}
 use borrow.Author.Rules.{rules}
 use Rattle.format.proofs.DigitLaws.{below_of}
-use Rattle.ledger_reader.proofs.Measuring.{headed, framed, measure_short, measure_wrong, measure_version, measure_unread, measure_big, measure_size}
+use Rattle.ledger_reader.proofs.Measuring.{Headed, headed, framed, measure_short, measure_wrong, measure_version, measure_unread, measure_big, measure_size}
 use Rattle.ledger_reader.proofs.measure.Goals.{then-ledger-lt4-via-then-ledger-lt4, then-ledger-lt4-via-else-ledger-lt4+then-get_be-ledger}
 use Rattle.ledger_reader.proofs.measure.Goals as goal
 
@@ -23,7 +23,7 @@ returns-then-ledger-lt4 c =
 pub returns-in_default : goal.returns-in_default
 returns-in_default c =
     rw c.refused_at-in_default.ensures
-    (record { to = measure_version c.args.ledger.now c.if-ledger-lt4.false (sym c.get_be.ensures ∙ c.if-get_be-ledger.false) c.in_default.ensures })
+    (record { to = measure_version c.args.ledger.now c.if-ledger-lt4.false (sym c.get_be.ensures ∙ c.if-get_be-ledger.false) c.in_default.ensures (grind arith) })
 
 pub read_content-requires : goal.read_content-requires
 read_content-requires c =
@@ -32,19 +32,19 @@ read_content-requires c =
 
 pub returns-in_err-content : goal.returns-in_err-content
 returns-in_err-content c =
-    let h = headed c.if-ledger-lt4.false (sym c.get_be.ensures ∙ c.if-get_be-ledger.false) c.in-Ok.ensures in
+    let h : Headed c.args.ledger.now _ = headed c.if-ledger-lt4.false (sym c.get_be.ensures ∙ c.if-get_be-ledger.false) c.in-Ok.ensures (grind arith) in
     measure_unread c.args.ledger.now h (search rules) c.in_err-content.ensures.to
 
 pub returns-then-long : goal.returns-then-long
 returns-then-long c =
     let l = c.args.ledger.now in
-    let h = headed c.if-ledger-lt4.false (sym c.get_be.ensures ∙ c.if-get_be-ledger.false) c.in-Ok.ensures in
+    let h : Headed c.args.ledger.now _ = headed c.if-ledger-lt4.false (sym c.get_be.ensures ∙ c.if-get_be-ledger.false) c.in-Ok.ensures (grind arith) in
     record { to = measure_big l h (below_of 256 l (λ i. omega (arith, c.type_inv.ledger i))) c.in_ok-content.ensures.to c.if-long.true }
 
 pub returns : goal.returns
 returns c =
     let l = c.args.ledger.now in
-    let h = headed c.if-ledger-lt4.false (sym c.get_be.ensures ∙ c.if-get_be-ledger.false) c.in-Ok.ensures in
+    let h : Headed c.args.ledger.now _ = headed c.if-ledger-lt4.false (sym c.get_be.ensures ∙ c.if-get_be-ledger.false) c.in-Ok.ensures (grind arith) in
     record {
       to = (h.edition, measure_size l h (below_of 256 l (λ i. omega (arith, c.type_inv.ledger i))) c.in_ok-content.ensures.to c.if-long.false);
     }
