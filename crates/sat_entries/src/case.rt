@@ -121,7 +121,9 @@ impl fmt::Display for Ids<'_> {
     }
 }
 
-// The different ids of the entries on one line, in the order of first entries. A body has at most 1,024 entries.
+// The different ids of the entries on one line, in the order of first entries. A body has at most 1,024 entries. By
+// itself, so that the stack has these ids only while they are listed.
+#[inline(never)]
 fn show_ids<W: Write>(out: &mut Listing<'_, W>, id: u8, body: &[u8]) -> io::Result<()> {
     let mut ids = [0u32; 1024];
     let Ok(found) = entry_ids(id, body, &mut ids) else {

@@ -18,7 +18,7 @@ mod output;
 fn list_all<R: Read, W: Write>(input: &mut R, to: &mut W) -> io::Result<()> {
     let mut out = Listing::new(to);
     let mut line = Line::new();
-    let mut block = [0u8; 8192];
+    let mut block = [0u8; 65536];
     for _ in 0..u64::MAX {
         let n = input.read(&mut block).unwrap_or(0);
         if n == 0 {
