@@ -109,7 +109,9 @@ def candidates(order, only, seed):
         for part in ("src", "specs"):
             folder = os.path.join(ROOT, "crates", crate, part)
             for base, _, names in sorted(os.walk(folder)):
-                files += [(crate, os.path.relpath(os.path.join(base, n), ROOT)) for n in sorted(names) if n.endswith((".rt", ".antt"))]
+                # A check does not read tests, so no edit of one is refused.
+                tried = [n for n in sorted(names) if n.endswith((".rt", ".antt")) and n != "tests.rt"]
+                files += [(crate, os.path.relpath(os.path.join(base, n), ROOT)) for n in tried]
     queues = []
     for crate, path in files:
         if only and crate != only:

@@ -3,14 +3,17 @@
 
 use clocks::Stamp;
 use ephemeris::{CovarianceData, EphemerisAccel, EphemerisData, ephemeris_data_at};
-use list_text::Listing;
+use list_text::{Listing, PathText};
 use metadata::{PositionV3Metadata, UsableTime};
 use parts::Part;
 use position_v3::{PositionV3Header, PositionV3Satellite};
 use std::io;
 use std::io::Write;
 
-pub fn show_header<W: Write>(out: &mut Listing<'_, W>, h: PositionV3Header) -> io::Result<()> {
+pub fn show_header<W: Write>(
+    out: &mut Listing<'_, W, impl PathText>,
+    h: PositionV3Header,
+) -> io::Result<()> {
     let date = Stamp {
         year: h.creation_date_year,
         reserved: h.creation_date_reserved_zero_future_use,
@@ -23,12 +26,16 @@ pub fn show_header<W: Write>(out: &mut Listing<'_, W>, h: PositionV3Header) -> i
 }
 
 // A stamp whose reserved bits have its stem too.
-fn show_date<W: Write>(out: &mut Listing<'_, W>, stem: &str, date: Stamp) -> io::Result<()> {
+fn show_date<W: Write>(
+    out: &mut Listing<'_, W, impl PathText>,
+    stem: &str,
+    date: Stamp,
+) -> io::Result<()> {
     out.stamp(stem, stem, date)
 }
 
 pub fn show<W: Write>(
-    out: &mut Listing<'_, W>,
+    out: &mut Listing<'_, W, impl PathText>,
     body: &[u8],
     s: PositionV3Satellite,
 ) -> io::Result<()> {
@@ -47,7 +54,10 @@ pub fn show<W: Write>(
 }
 
 // The id and the flags.
-fn show_front<W: Write>(out: &mut Listing<'_, W>, s: PositionV3Satellite) -> io::Result<()> {
+fn show_front<W: Write>(
+    out: &mut Listing<'_, W, impl PathText>,
+    s: PositionV3Satellite,
+) -> io::Result<()> {
     out.field("satellite_id", s.satellite_id)?;
     out.field("reserved_zero_future_use", s.reserved_zero_future_use)?;
     out.flag("metadata_flag", s.metadata.is_some())?;
@@ -57,7 +67,10 @@ fn show_front<W: Write>(out: &mut Listing<'_, W>, s: PositionV3Satellite) -> io:
     out.flag("covariance_flag", s.covariance_flag)
 }
 
-fn show_metadata<W: Write>(out: &mut Listing<'_, W>, m: PositionV3Metadata) -> io::Result<()> {
+fn show_metadata<W: Write>(
+    out: &mut Listing<'_, W, impl PathText>,
+    m: PositionV3Metadata,
+) -> io::Result<()> {
     let first = Stamp {
         year: m.total_start_time_year,
         reserved: m.total_start_time_reserved_zero_future_use,
@@ -81,7 +94,7 @@ fn show_metadata<W: Write>(out: &mut Listing<'_, W>, m: PositionV3Metadata) -> i
 }
 
 fn show_usable<W: Write>(
-    out: &mut Listing<'_, W>,
+    out: &mut Listing<'_, W, impl PathText>,
     name: &str,
     time: Option<UsableTime>,
 ) -> io::Result<()> {
@@ -101,7 +114,7 @@ fn show_usable<W: Write>(
 
 // The entries, by the index, which is what the call takes.
 fn show_ephemerides<W: Write>(
-    out: &mut Listing<'_, W>,
+    out: &mut Listing<'_, W, impl PathText>,
     body: &[u8],
     part: Part,
     accel: bool,
@@ -115,7 +128,10 @@ fn show_ephemerides<W: Write>(
     Ok(())
 }
 
-fn show_ephemeris<W: Write>(out: &mut Listing<'_, W>, e: EphemerisData) -> io::Result<()> {
+fn show_ephemeris<W: Write>(
+    out: &mut Listing<'_, W, impl PathText>,
+    e: EphemerisData,
+) -> io::Result<()> {
     let epoch = Stamp {
         year: e.epoch_year,
         reserved: e.reserved_zero_future_use,
@@ -135,13 +151,19 @@ fn show_ephemeris<W: Write>(out: &mut Listing<'_, W>, e: EphemerisData) -> io::R
     }
 }
 
-fn show_acceleration<W: Write>(out: &mut Listing<'_, W>, a: EphemerisAccel) -> io::Result<()> {
+fn show_acceleration<W: Write>(
+    out: &mut Listing<'_, W, impl PathText>,
+    a: EphemerisAccel,
+) -> io::Result<()> {
     out.field("ephemeris_x_ddot", a.ephemeris_x_ddot)?;
     out.field("ephemeris_y_ddot", a.ephemeris_y_ddot)?;
     out.field("ephemeris_z_ddot", a.ephemeris_z_ddot)
 }
 
-fn show_covariance<W: Write>(out: &mut Listing<'_, W>, c: CovarianceData) -> io::Result<()> {
+fn show_covariance<W: Write>(
+    out: &mut Listing<'_, W, impl PathText>,
+    c: CovarianceData,
+) -> io::Result<()> {
     let epoch = Stamp {
         year: c.covariance_epoch_year,
         reserved: c.covariance_epoch_reserved_zero_future_use,

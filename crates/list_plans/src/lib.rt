@@ -2,14 +2,18 @@
 #![tactic(auto)]
 
 use clocks::Clock;
-use list_text::{Hexadecimal, Listing, Slots, bytes_of};
+use list_text::{Hexadecimal, Listing, PathText, Slots, bytes_of};
 use parts::Part;
 use plan::BeamhoppingPlan;
 use plan_modes::BeamhoppingMode;
 use std::io;
 use std::io::Write;
 
-pub fn show<W: Write>(out: &mut Listing<'_, W>, body: &[u8], p: BeamhoppingPlan) -> io::Result<()> {
+pub fn show<W: Write>(
+    out: &mut Listing<'_, W, impl PathText>,
+    body: &[u8],
+    p: BeamhoppingPlan,
+) -> io::Result<()> {
     let start = Clock {
         base: p.time_of_application_base,
         reserved: p.time_of_application_reserved_zero_future_use,
@@ -33,7 +37,11 @@ pub fn show<W: Write>(out: &mut Listing<'_, W>, body: &[u8], p: BeamhoppingPlan)
 }
 
 // A clock whose reserved bits have its stem too.
-fn show_clock<W: Write>(out: &mut Listing<'_, W>, stem: &str, time: Clock) -> io::Result<()> {
+fn show_clock<W: Write>(
+    out: &mut Listing<'_, W, impl PathText>,
+    stem: &str,
+    time: Clock,
+) -> io::Result<()> {
     out.clock(stem, stem, time)
 }
 
@@ -48,7 +56,7 @@ fn clock_of(base: u64, reserved: u8, ext: u16) -> Clock {
 // What a mode has of its own. The functions for modes 0 to 2 each take their own variant apart, and write nothing of
 // another: one `match` of all would be longer than a function may be here.
 fn show_mode<W: Write>(
-    out: &mut Listing<'_, W>,
+    out: &mut Listing<'_, W, impl PathText>,
     body: &[u8],
     mode: BeamhoppingMode,
 ) -> io::Result<()> {
@@ -62,7 +70,10 @@ fn show_mode<W: Write>(
     show_grid(out, mode)
 }
 
-fn show_dwell<W: Write>(out: &mut Listing<'_, W>, mode: BeamhoppingMode) -> io::Result<()> {
+fn show_dwell<W: Write>(
+    out: &mut Listing<'_, W, impl PathText>,
+    mode: BeamhoppingMode,
+) -> io::Result<()> {
     let BeamhoppingMode::Mode0 {
         dwell_duration_base: base,
         dwell_duration_ext: ext,
@@ -81,7 +92,7 @@ fn show_dwell<W: Write>(out: &mut Listing<'_, W>, mode: BeamhoppingMode) -> io::
 }
 
 fn show_bitmap<W: Write>(
-    out: &mut Listing<'_, W>,
+    out: &mut Listing<'_, W, impl PathText>,
     body: &[u8],
     mode: BeamhoppingMode,
 ) -> io::Result<()> {
@@ -104,14 +115,21 @@ fn show_bitmap<W: Write>(
     out.field("slots_on", slots_on)
 }
 
-fn show_slots<W: Write>(out: &mut Listing<'_, W>, body: &[u8], part: Part) -> io::Result<()> {
+fn show_slots<W: Write>(
+    out: &mut Listing<'_, W, impl PathText>,
+    body: &[u8],
+    part: Part,
+) -> io::Result<()> {
     let bytes = bytes_of(body, part);
     let count = part.count;
     out.place(part)?;
     out.value(Slots { bytes, count })
 }
 
-fn show_grid<W: Write>(out: &mut Listing<'_, W>, mode: BeamhoppingMode) -> io::Result<()> {
+fn show_grid<W: Write>(
+    out: &mut Listing<'_, W, impl PathText>,
+    mode: BeamhoppingMode,
+) -> io::Result<()> {
     let BeamhoppingMode::Mode2 {
         grid_size_base,
         grid_size_ext,

@@ -1,11 +1,14 @@
 // Table id 2: a time association.
 use association::{LeapInfo, TimeAssociationBody};
 use clocks::Clock;
-use list_text::Listing;
+use list_text::{Listing, PathText};
 use std::io;
 use std::io::Write;
 
-pub fn show<W: Write>(out: &mut Listing<'_, W>, a: TimeAssociationBody) -> io::Result<()> {
+pub fn show<W: Write>(
+    out: &mut Listing<'_, W, impl PathText>,
+    a: TimeAssociationBody,
+) -> io::Result<()> {
     let ncr = Clock {
         base: a.ncr_base,
         reserved: a.ncr_reserved_zero_future_use,
@@ -26,7 +29,7 @@ pub fn show<W: Write>(out: &mut Listing<'_, W>, a: TimeAssociationBody) -> io::R
     out.field("association_timestamp_nanoseconds", nanoseconds)
 }
 
-fn show_leap<W: Write>(out: &mut Listing<'_, W>, leap: LeapInfo) -> io::Result<()> {
+fn show_leap<W: Write>(out: &mut Listing<'_, W, impl PathText>, leap: LeapInfo) -> io::Result<()> {
     out.flag("leap59", leap.leap59)?;
     out.flag("leap61", leap.leap61)?;
     out.flag("pastleap59", leap.pastleap59)?;

@@ -1,13 +1,17 @@
 // Table id 1: a cell fragment.
 use clocks::Clock;
 use fragment::{CellCentre, CellFragment};
-use list_text::Listing;
+use list_text::{Listing, PathText};
 use parts::Part;
 use std::io;
 use std::io::Write;
 use systems::{delivery_system_id_at, new_delivery_system_at, obsolescent_delivery_system_at};
 
-pub fn show<W: Write>(out: &mut Listing<'_, W>, body: &[u8], f: CellFragment) -> io::Result<()> {
+pub fn show<W: Write>(
+    out: &mut Listing<'_, W, impl PathText>,
+    body: &[u8],
+    f: CellFragment,
+) -> io::Result<()> {
     out.field("cell_fragment_id", f.cell_fragment_id)?;
     out.flag("first_occurrence", f.first_occurrence)?;
     out.flag("last_occurrence", f.last_occurrence)?;
@@ -30,7 +34,7 @@ pub fn show<W: Write>(out: &mut Listing<'_, W>, body: &[u8], f: CellFragment) ->
     show_obsolescent(&mut out.part("obsolescent_delivery_systems")?, body, old)
 }
 
-fn show_centre<W: Write>(out: &mut Listing<'_, W>, c: CellCentre) -> io::Result<()> {
+fn show_centre<W: Write>(out: &mut Listing<'_, W, impl PathText>, c: CellCentre) -> io::Result<()> {
     out.field("reserved_zero_future_use_4", c.reserved_zero_future_use_4)?;
     out.field("centre_latitude", c.centre_latitude)?;
     out.field("reserved_zero_future_use_5", c.reserved_zero_future_use_5)?;
@@ -41,7 +45,11 @@ fn show_centre<W: Write>(out: &mut Listing<'_, W>, c: CellCentre) -> io::Result<
 
 // The delivery systems' ids. An id is a value by itself, with no name behind its place in the list. By the index, which
 // is what the call takes; so are the other lists.
-fn show_ids<W: Write>(out: &mut Listing<'_, W>, body: &[u8], part: Part) -> io::Result<()> {
+fn show_ids<W: Write>(
+    out: &mut Listing<'_, W, impl PathText>,
+    body: &[u8],
+    part: Part,
+) -> io::Result<()> {
     out.list(part)?;
     for i in 0..part.count {
         if let Some(id) = delivery_system_id_at(body, part, i) {
@@ -51,7 +59,11 @@ fn show_ids<W: Write>(out: &mut Listing<'_, W>, body: &[u8], part: Part) -> io::
     Ok(())
 }
 
-fn show_new<W: Write>(out: &mut Listing<'_, W>, body: &[u8], part: Part) -> io::Result<()> {
+fn show_new<W: Write>(
+    out: &mut Listing<'_, W, impl PathText>,
+    body: &[u8],
+    part: Part,
+) -> io::Result<()> {
     out.list(part)?;
     for i in 0..part.count {
         if let Some(s) = new_delivery_system_at(body, part, i) {
@@ -68,7 +80,11 @@ fn show_new<W: Write>(out: &mut Listing<'_, W>, body: &[u8], part: Part) -> io::
     Ok(())
 }
 
-fn show_obsolescent<W: Write>(out: &mut Listing<'_, W>, body: &[u8], part: Part) -> io::Result<()> {
+fn show_obsolescent<W: Write>(
+    out: &mut Listing<'_, W, impl PathText>,
+    body: &[u8],
+    part: Part,
+) -> io::Result<()> {
     out.list(part)?;
     for i in 0..part.count {
         if let Some(s) = obsolescent_delivery_system_at(body, part, i) {

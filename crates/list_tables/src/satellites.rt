@@ -1,10 +1,13 @@
 // Table id 0: a satellite and its position.
-use list_text::Listing;
+use list_text::{Listing, PathText};
 use position::{PositionSystem, PositionV2Satellite};
 use std::io;
 use std::io::Write;
 
-pub fn show<W: Write>(out: &mut Listing<'_, W>, s: PositionV2Satellite) -> io::Result<()> {
+pub fn show<W: Write>(
+    out: &mut Listing<'_, W, impl PathText>,
+    s: PositionV2Satellite,
+) -> io::Result<()> {
     let kept = s.reserved_zero_future_use;
     let system = s.position;
     let is_elements = matches!(system, PositionSystem::Sgp4 { .. });
@@ -14,7 +17,10 @@ pub fn show<W: Write>(out: &mut Listing<'_, W>, s: PositionV2Satellite) -> io::R
     show_position(&mut out.part("position")?, system)
 }
 
-fn show_position<W: Write>(out: &mut Listing<'_, W>, system: PositionSystem) -> io::Result<()> {
+fn show_position<W: Write>(
+    out: &mut Listing<'_, W, impl PathText>,
+    system: PositionSystem,
+) -> io::Result<()> {
     match system {
         PositionSystem::Orbital {
             orbital_position,

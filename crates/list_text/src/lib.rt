@@ -1,51 +1,70 @@
 // The text that sat_entries writes: a line for each field of a body, under the field's path.
 #![tactic(auto)]
 
+ghost use Rattle.std.specs.Prelude.{◌≡◌};
+
 use arrayvec::ArrayString;
 use clocks::{Clock, Stamp};
 use parts::Part;
+use std::convert::AsStr;
 use std::fmt::{Display, Write as _};
 use std::io::{ErrorKind, Write};
 use std::{fmt, io};
 
-// The most bytes of a path; the longest one has 50.
+#[cfg(test)]
+mod tests;
+
+// The most bytes of a path of `Listing::new`; the longest one of sat_entries has 50.
 const PATH_MAX: usize = 64;
+
+// What a path lies in: an `ArrayString` of any size, or another text of the caller's, such as a `String`.
+pub trait PathText: Clone + fmt::Write + AsStr {}
+
+impl<P: Clone + fmt::Write + AsStr> PathText for P {}
 
 // The lines of one part of a body: where they go, and the part's path, as `plans[2].mode`. That of the body is empty.
 #[derive(Drop)]
-pub struct Listing<'a, W: Write> {
+pub struct Listing<'a, W: Write, P: PathText = ArrayString<PATH_MAX>> {
     to: &'a mut W,
-    path: ArrayString<PATH_MAX>,
+    path: P,
 }
 
-// What a path that is too long is told by.
-fn path_full<T: Drop>(_: T) -> io::Error {
+// What a path that its text has no room for is told by.
+fn path_full(_: fmt::Error) -> io::Error {
     io::Error::from(ErrorKind::StorageFull)
 }
 
 impl<'a, W: Write> Listing<'a, W> {
-    // The listing of a body.
+    // The listing of a body. Its paths have at most 64 bytes.
     pub fn new(to: &'a mut W) -> Listing<'a, W> {
-        Listing {
-            to,
-            path: ArrayString::new(),
-        }
+        Listing::with_path(to, ArrayString::new())
+    }
+}
+
+impl<'a, W: Write, P: PathText> Listing<'a, W, P> {
+    // The listing of the part that has this path. Paths are as long as a text of this type can be.
+    pub fn with_path(to: &'a mut W, path: P) -> Listing<'a, W, P>
+        ensures output { result.to.ghost_name ≡ to.entry.ghost_name }
+        ensures unwritten { result.to.now ≡ to.old }
+        ensures path { result.path ≡ path }
+    {
+        Listing { to, path }
     }
 
     // The listing of a part, under its name.
-    pub fn part(&mut self, name: &str) -> io::Result<Listing<'_, W>> {
-        let mut path = self.path;
-        if !path.is_empty() {
-            path.try_push('.').map_err(path_full)?;
+    pub fn part(&mut self, name: &str) -> io::Result<Listing<'_, W, P>> {
+        let mut path = self.path.clone()?;
+        if !path.as_str().is_empty() {
+            path.write_str(".").map_err(path_full)?;
         }
-        path.try_push_str(name).map_err(path_full)?;
+        path.write_str(name).map_err(path_full)?;
         let to = &mut *self.to;
         Ok(Listing { to, path })
     }
 
     // The listing of an element of a list.
-    pub fn element(&mut self, index: usize) -> io::Result<Listing<'_, W>> {
-        let mut path = self.path;
+    pub fn element(&mut self, index: usize) -> io::Result<Listing<'_, W, P>> {
+        let mut path = self.path.clone()?;
         write!(path, "[{index}]").map_err(path_full)?;
         let to = &mut *self.to;
         Ok(Listing { to, path })

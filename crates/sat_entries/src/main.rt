@@ -12,6 +12,8 @@ use std::io::{Read, Write};
 mod case;
 mod input;
 mod output;
+#[cfg(test)]
+mod tests;
 
 // Lists the cases of the input, read a block at a time, counted by a number that no run uses up. A read that fails ends
 // it.
